@@ -1,0 +1,2 @@
+pub mod FloodLaws
+pub mod Orderings
