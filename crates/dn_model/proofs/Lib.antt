@@ -1,0 +1,7 @@
+pub mod EventOrder
+pub mod Causes
+pub mod Replay
+pub mod Waves
+pub mod Rows
+pub mod Steps
+pub mod Committed

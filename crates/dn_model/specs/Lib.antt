@@ -1,0 +1,9 @@
+pub mod Names
+pub mod Routers
+pub mod Links
+pub mod Cases
+pub mod Keys
+pub mod Order
+pub mod Network
+pub mod Settled
+pub mod SoFar
