@@ -1,4 +1,5 @@
 pub mod EventOrder
+pub mod Ports
 pub mod Causes
 pub mod Replay
 pub mod Waves
