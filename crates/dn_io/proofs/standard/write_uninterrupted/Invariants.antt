@@ -1,0 +1,6 @@
+-- An interrupted write appends nothing.
+use Rattle.std.specs.Io.KnownBytes.{Keeps}
+use Rattle.dn_io.proofs.standard.write_uninterrupted.Given as goal
+
+abbrev pub invariant-loop : goal.invariant-loop
+invariant-loop g l = Keeps (g.W.Write.contents l.fn.writer) (g.W.Write.contents l.writer)

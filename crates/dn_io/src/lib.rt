@@ -1,0 +1,40 @@
+//! The outside of the program: where bytes come from, where they go, and how both may fail.
+//!
+//! A `Source` gives bytes and a `Sink` takes them. What a source has left and what a sink holds are
+//! their meanings, where they tell it: those in memory do, standard input and output don't. Each
+//! counts its faults, and that count never falls; a call fails only where it rose. So a caller can
+//! state, for every source and sink, what was read, what was written and whose fault a failure is.
+//!
+//! | File | What it has |
+//! |---|---|
+//! | `source.rt` | the trait `Source`, and `Took`, the answer of a read |
+//! | `sink.rt` | the trait `Sink`, and `Put`, the answer of a write |
+//! | `read.rt` | `read_all`, reading to the end within a limit |
+//! | `write.rt` | `put_all`, writing all of some bytes |
+//! | `output.rt` | `OutputBuffer`, which gathers pieces and hands the sink whole buffers |
+//! | `memory.rt` | `MemSource` and `MemSink`, which tell all and fail at the calls they are told |
+//! | `standard.rt` | `StdSource` and `StdSink`, over std's readers and writers |
+//!
+//! The one contract upwards is that of the traits, in the words of `specs/Streams.antt`: bytes come
+//! and go in order, none is lost or made up, and a failure has its cause in a count.
+#![tactic(auto)]
+
+mod memory;
+mod output;
+mod read;
+mod sink;
+mod source;
+mod standard;
+mod write;
+
+pub use memory::{MemSink, MemSource};
+pub use output::OutputBuffer;
+pub use read::{ReadError, read_all};
+pub use sink::{Put, Sink};
+pub use source::{Source, Took};
+pub use standard::{StdSink, StdSource};
+pub use std::alloc::AllocError as NoMemory;
+pub use write::{WriteFault, put_all};
+
+#[cfg(test)]
+mod tests;
