@@ -1,0 +1,77 @@
+//! Writing rows and states to a sink.
+
+ghost use Rattle.std.specs.Prelude.{◌≡◌, ◌<◌, ◌≤◌, length, OnOk, IsErrOf};
+ghost use Rattle.dn_io.specs.Streams.{Rose, behind, PutsFront};
+ghost use Rattle.dn_trace.specs.Rows.{row_line, state_line};
+
+use crate::rows::{push_row, push_state};
+use dn_guest::{Bytes, Guest, Node};
+use dn_io::{Sink, WriteFault, put_all};
+use dn_model::{Header, Row};
+use std::alloc::Global;
+use thiserror::Error;
+
+/// Why writing stopped.
+#[derive(Clone, Copy, Debug, PartialEq, Eq, Error)]
+pub enum WriteError {
+    /// The sink failed.
+    #[error("the sink failed")]
+    Fault,
+    /// There was no memory for the text.
+    #[error("out of memory")]
+    NoMemory,
+}
+
+/// Writes a text; at an error a front of it was written.
+pub(crate) fn put_text<K: Sink>(sink: &mut K, text: &Bytes) -> Result<(), WriteError>
+    ensures all { OnOk result (K.holds sink.new ≡ behind (K.holds sink.old) text.now) }
+    ensures front { PutsFront (K.holds sink.old) (K.holds sink.new) text.now }
+    ensures fault { IsErrOf result WriteError.Fault → Rose (K.faults sink.old) (K.faults sink.new) }
+    ensures later { K.faults sink.old ≤ K.faults sink.new }
+{
+    match put_all(sink, text.as_slice()) {
+        Ok(()) => Ok(()),
+        Err(WriteFault) => Err(WriteError::Fault),
+    }
+}
+
+/// Writes the line of a row. At an error a front of it was written.
+pub fn write_row<K: Sink>(
+    alloc: Global,
+    header: &Header,
+    row: &Row,
+    sink: &mut K,
+) -> Result<(), WriteError>
+    requires { row.now.router < length header.now.routers }
+    ensures all { OnOk result (K.holds sink.new ≡ behind (K.holds sink.old) (row_line header.now.routers row.now)) }
+    ensures front { PutsFront (K.holds sink.old) (K.holds sink.new) (row_line header.now.routers row.now) }
+    ensures fault { IsErrOf result WriteError.Fault → Rose (K.faults sink.old) (K.faults sink.new) }
+    ensures later { K.faults sink.old ≤ K.faults sink.new }
+{
+    let mut text = Bytes::new(alloc);
+    if push_row(&mut text, header.routers.as_slice(), row).is_err() {
+        return Err(WriteError::NoMemory);
+    }
+    put_text(sink, &text)
+}
+
+/// Writes the line of a router's state. At an error a front of it was written.
+pub fn write_state<K: Sink, G: Guest>(
+    alloc: Global,
+    header: &Header,
+    router: u16,
+    node: &Node<G>,
+    sink: &mut K,
+) -> Result<(), WriteError>
+    requires { router < length header.now.routers }
+    ensures all { OnOk result (K.holds sink.new ≡ behind (K.holds sink.old) (state_line G.meaning header.now.routers router node.now)) }
+    ensures front { PutsFront (K.holds sink.old) (K.holds sink.new) (state_line G.meaning header.now.routers router node.now) }
+    ensures fault { IsErrOf result WriteError.Fault → Rose (K.faults sink.old) (K.faults sink.new) }
+    ensures later { K.faults sink.old ≤ K.faults sink.new }
+{
+    let mut text = Bytes::new(alloc);
+    if push_state(alloc, &mut text, header.routers.as_slice(), router, node).is_err() {
+        return Err(WriteError::NoMemory);
+    }
+    put_text(sink, &text)
+}
