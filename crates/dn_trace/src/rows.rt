@@ -1,7 +1,7 @@
 //! The lines of rows and states. Each call appends to a text; after `NoMemory` what stood in it before
 //! still stands at its front.
 
-ghost use Rattle.std.specs.Prelude.{◌≡◌, ◌++◌, ◌∷◌, [], ◌<◌, ◌≤◌, length, OnOk};
+ghost use Rattle.std.specs.Prelude.{◌≡◌, ◌++◌, ◌∷◌, [], OnOk};
 ghost use Rattle.std.specs.Fmt.{decimal};
 ghost use Rattle.dn_guest.specs.Hex.{hex};
 ghost use Rattle.dn_guest.specs.KeepsFront.{KeepsFront};
@@ -136,18 +136,19 @@ fn push_input_line(out: &mut Bytes, input: &Input) -> Result<(), NoMemory>
     Ok(())
 }
 
-/// The name of a router.
+/// The name of a router; empty where there is none of that number.
 fn name_of(routers: &[RouterDef], router: u16) -> &[u8]
-    requires { router < length routers.now }
     ensures { result.now ≡ name_at routers.now router }
 {
-    routers[usize::from(router)].name.as_slice()
+    match routers.get(usize::from(router)) {
+        Some(found) => found.name.as_slice(),
+        None => &[],
+    }
 }
 
 /// Appends the line of a row: `GROUP SUM CLASS TIE ORIGIN SEQ ROUTER INPUT`.
 #[tactic(auto, unfolding(crate::specs::Rows::row_line))]
 pub fn push_row(out: &mut Bytes, routers: &[RouterDef], row: &Row) -> Result<(), NoMemory>
-    requires { row.now.router < length routers.now }
     ensures ok { OnOk result (out.new ≡ out.old ++ row_line routers.now row.now) }
     ensures kept { KeepsFront out.old out.new }
 {
@@ -188,7 +189,6 @@ pub fn push_state<G: Guest>(
     router: u16,
     node: &Node<G>,
 ) -> Result<(), NoMemory>
-    requires { router < length routers.now }
     ensures ok { OnOk result (out.new ≡ out.old ++ state_line G.meaning routers.now router node.now) }
     ensures kept { KeepsFront out.old out.new }
 {

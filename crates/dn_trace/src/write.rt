@@ -1,6 +1,6 @@
 //! Writing rows and states to a sink.
 
-ghost use Rattle.std.specs.Prelude.{◌≡◌, ◌<◌, ◌≤◌, length, OnOk, IsErrOf};
+ghost use Rattle.std.specs.Prelude.{◌≡◌, ◌≤◌, OnOk, IsErrOf};
 ghost use Rattle.dn_io.specs.Streams.{Rose, behind, PutsFront};
 ghost use Rattle.dn_trace.specs.Rows.{row_line, state_line};
 
@@ -42,7 +42,6 @@ pub fn write_row<K: Sink>(
     row: &Row,
     sink: &mut K,
 ) -> Result<(), WriteError>
-    requires { row.now.router < length header.now.routers }
     ensures all { OnOk result (K.holds sink.new ≡ behind (K.holds sink.old) (row_line header.now.routers row.now)) }
     ensures front { PutsFront (K.holds sink.old) (K.holds sink.new) (row_line header.now.routers row.now) }
     ensures fault { IsErrOf result WriteError.Fault → Rose (K.faults sink.old) (K.faults sink.new) }
@@ -63,7 +62,6 @@ pub fn write_state<K: Sink, G: Guest>(
     node: &Node<G>,
     sink: &mut K,
 ) -> Result<(), WriteError>
-    requires { router < length header.now.routers }
     ensures all { OnOk result (K.holds sink.new ≡ behind (K.holds sink.old) (state_line G.meaning header.now.routers router node.now)) }
     ensures front { PutsFront (K.holds sink.old) (K.holds sink.new) (state_line G.meaning header.now.routers router node.now) }
     ensures fault { IsErrOf result WriteError.Fault → Rose (K.faults sink.old) (K.faults sink.new) }

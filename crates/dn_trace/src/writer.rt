@@ -1,6 +1,6 @@
 //! Writing rows that come in pieces.
 
-ghost use Rattle.std.specs.Prelude.{◌≡◌, ◌<◌, ◌≤◌, ◌++◌, length, All, OnOk, OnErr, IsErrOf};
+ghost use Rattle.std.specs.Prelude.{◌≡◌, ◌≤◌, ◌++◌, OnOk, OnErr, IsErrOf};
 ghost use Rattle.dn_io.specs.Streams.{Rose, behind, PutsFront, PutsOrKeeps};
 ghost use Rattle.dn_trace.specs.Rows.{row_lines};
 ghost use Rattle.dn_trace.specs.Writing.{opening_line, more_rows, counted};
@@ -59,7 +59,6 @@ impl TraceWriter {
         rows: &[Row],
         sink: &mut K,
     ) -> Result<(), WriteError>
-        requires { All (λ row. row.router < length header.now.routers) rows.now }
         ensures all { OnOk result (K.holds sink.new ≡ behind (K.holds sink.old) (more_rows header.now.routers self.old rows.now)) }
         ensures count { OnOk result (self.new ≡ counted self.old rows.now) }
         ensures front { PutsFront (K.holds sink.old) (K.holds sink.new) (more_rows header.now.routers self.old rows.now) }
@@ -94,7 +93,6 @@ fn put_rows<K: Sink>(
     rows: &[Row],
     sink: &mut K,
 ) -> Result<(), WriteError>
-    requires { All (λ row. row.router < length routers.now) rows.now }
     ensures all { OnOk result (K.holds sink.new ≡ behind (K.holds sink.old) (text.old ++ row_lines routers.now rows.now)) }
     ensures front { PutsFront (K.holds sink.old) (K.holds sink.new) (text.old ++ row_lines routers.now rows.now) }
     ensures fault { IsErrOf result WriteError.Fault → Rose (K.faults sink.old) (K.faults sink.new) }
