@@ -24,14 +24,15 @@ cut_line = last_field (codes "cut " ++ decimal row_limit)
 
 module _ {S : Type 0} (net : Network S) (feed : List External) where
   -- the states after the last row, and the number of rows
-  unfoldable pub ending : List ℕ
-  ending =
+  unfoldable pub last_lines : List ℕ
+  last_lines =
       state_lines net.guests net.header.routers (λ r. state net r (lockstep net feed r)) (routers net)
       ++ end_line (length (rows net feed))
 
-  -- the line `trace`, the rows as far as a trace shows them, and how it ends
+  -- how a trace ends behind its rows
+  unfoldable pub end_text : List ℕ
+  end_text = if is_cut net feed then cut_line else last_lines
+
+  -- the line `trace`, the rows as far as a trace shows them, and the end
   unfoldable pub trace_text : List ℕ
-  trace_text =
-      codes "trace\n"
-      ++ row_lines net.header.routers (shown_rows net feed)
-      ++ (if is_cut net feed then cut_line else ending)
+  trace_text = codes "trace\n" ++ (row_lines net.header.routers (shown_rows net feed) ++ end_text)
