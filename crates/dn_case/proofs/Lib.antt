@@ -9,3 +9,7 @@ pub mod Sound
 pub mod Finishing
 pub mod Judging
 pub mod OneCase
+pub mod Fields
+pub mod Spelled
+pub mod RoundTrip
+pub mod Fronts

@@ -28,6 +28,7 @@ mod cause;
 mod counted_links;
 mod external_lines;
 mod known_routers;
+mod laws;
 mod link_lines;
 mod number;
 mod place;
@@ -38,5 +39,9 @@ mod standing;
 mod write;
 
 pub use cause::{CaseError, CaseFault, Cause};
+pub use laws::{
+    a_spelled_line_is_read, a_text_has_one_case, a_text_has_one_first_bad_line,
+    a_written_case_is_read,
+};
 pub use read::read_case;
 pub use write::write_case;
