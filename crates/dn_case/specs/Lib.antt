@@ -1,2 +1,5 @@
 pub mod Shapes
 pub mod Spelling
+pub mod Standings
+pub mod Takings
+pub mod Reading

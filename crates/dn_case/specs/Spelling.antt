@@ -61,13 +61,13 @@ spelled l = join_with_byte 32 (fields_of l) ++ 10 ∷ []
 abbrev pub AreSmall : Net → Type 0
 AreSmall net = IsSmall net.a × IsSmall net.b × IsSmall net.c × IsSmall net.d × IsSmall net.len
 
--- what has a spelling
+-- what has a spelling that is read again
 abbrev pub IsSpellable : Line → Type 0
 IsSpellable (Version n) = IsSmall n
 IsSpellable (Period n) = IsSmall n
 IsSpellable (Groups n) = IsSmall n
 IsSpellable (Seed n) = IsSmall n
-IsSpellable (Router name kind) = IsTrue (is_name name)
+IsSpellable (Router name k) = IsTrue (is_name name) × (k ≡ kind.Flood)
 IsSpellable (Link a b delay cost) = IsTrue (is_name a) × IsTrue (is_name b) × IsSmall delay × IsSmall cost
 IsSpellable (Prefix name net cost) = IsTrue (is_name name) × AreSmall net × IsSmall cost
 IsSpellable Feed = Unit {0}
