@@ -1,5 +1,5 @@
 -- What the commands write of an input, and which statuses they answer.
-use Rattle.std.specs.Prelude.{◌≡◌, ◌≢◌, ℕ, ◌+◌, ◌≤◌, ◌<◌, Bool, true, false, List, [], ◌++◌, length, take, drop, slice_get, Option, Some}
+use Rattle.std.specs.Prelude.{◌≡◌, ◌⊎◌, ℕ, ◌+◌, ◌≤◌, ◌<◌, Bool, true, false, List, [], ◌++◌, length, drop, Option}
 use Rattle.dn_guest.specs.Flood.{Bodies, flood}
 use Rattle.dn_io.specs.Streams.{behind, PutsFront}
 use Rattle.dn_model.specs.Cases.{Heading, Recording}
@@ -10,8 +10,11 @@ use Rattle.dn_case.specs.declared.cause.CaseFault.{CaseFault}
 use Rattle.dn_case.specs.Spelling.{case_text}
 use Rattle.dn_case.specs.Reading.{IsCaseFront, IsFirstBad, HasNoCase}
 use Rattle.dn_trace.specs.Trace.{trace_text}
+use Rattle.dn_trace.specs.Differing.{DiffersAt}
 use Rattle.dn_top.specs.declared.status.Status.{Status}
 use Rattle.dn_top.specs.declared.status.Status.TheVariants as status
+use Rattle.dn_top.specs.declared.words.Command.{Command}
+use Rattle.dn_top.specs.declared.words.Command.TheVariants as command
 
 -- ---- what is written of a case
 
@@ -64,12 +67,6 @@ pub record IsBadCase (input : List ℕ) (fault : CaseFault) : Type 0 where
 
 -- ---- what is compared
 
--- the first place where two texts differ, or where one of them ends
-pub record DiffersAt (one other : List ℕ) (place : ℕ) : Type 0 where
-  pub same : take place one ≡ take place other
-  pub within : (place ≤ length one) × (place ≤ length other)
-  pub apart : slice_get one place ≢ slice_get other place
-
 -- behind the case at the front of the input stands its trace, which is cut or whole
 pub record HasItsTrace (input : List ℕ) (cut : Bool) : Type 0 where
   pub case : Recording
@@ -78,14 +75,18 @@ pub record HasItsTrace (input : List ℕ) (cut : Bool) : Type 0 where
   pub is : is_cut_case case ≡ cut
   pub same : drop size input ≡ trace_of case
 
--- what stands behind the case at the front of the input differs from its trace, at this place of the input
+-- what stands behind the first bytes of the input differs from the trace of the case, first at this place of the input
+pub record IsOtherTrace (input : List ℕ) (c : Recording) (size place : ℕ) : Type 0 where
+  pub behind_case : ℕ
+  pub differs : DiffersAt (drop size input) (trace_of c) behind_case
+  pub at : place ≡ size + behind_case
+
+-- what stands behind the case at the front of the input differs from its trace, first at this place of the input
 pub record HasOtherTrace (input : List ℕ) (place : ℕ) : Type 0 where
   pub case : Recording
   pub size : ℕ
   pub has : HasCase input case size
-  pub behind_case : ℕ
-  pub differs : DiffersAt (drop size input) (trace_of case) behind_case
-  pub at : place ≡ size + behind_case
+  pub other : IsOtherTrace input case size place
 
 -- ---- statuses
 
@@ -96,7 +97,7 @@ is_of_reading status.TooBig = true
 is_of_reading status.NoMemory = true
 is_of_reading _ = false
 
--- an answer to a case that was read and written
+-- an answer to a case that was read
 abbrev pub is_of_writing : Status → Bool
 is_of_writing status.Ok = true
 is_of_writing status.Cut = true
@@ -104,8 +105,56 @@ is_of_writing status.WriteFault = true
 is_of_writing status.NoMemory = true
 is_of_writing _ = false
 
+-- an answer to a comparison
+abbrev pub is_of_comparing : Status → Bool
+is_of_comparing status.Ok = true
+is_of_comparing status.Cut = true
+is_of_comparing (status.Differs place) = true
+is_of_comparing status.NoMemory = true
+is_of_comparing _ = false
+
+-- an answer for which the source was read to its end
+abbrev pub is_of_whole_input : Status → Bool
+is_of_whole_input status.Ok = true
+is_of_whole_input status.Cut = true
+is_of_whole_input (status.Differs place) = true
+is_of_whole_input (status.BadCase fault) = true
+is_of_whole_input _ = false
+
 -- a refusal of the case: the first bad line, or want of memory
 abbrev pub IsCaseRefusal : List ℕ → Status → Type 0
 IsCaseRefusal input (status.BadCase fault) = IsBadCase input fault
 IsCaseRefusal input status.NoMemory = Unit {0}
 IsCaseRefusal input _ = ⊥
+
+-- ---- what each command answers of an input, and what was written then
+
+-- of `run` and `lockstep`
+abbrev pub AnswersRun : Status → List ℕ → Option (List ℕ) → Option (List ℕ) → Type 0
+AnswersRun status.Ok input old now = HasWritten input false old now
+AnswersRun status.Cut input old now = HasWritten input true old now
+AnswersRun (status.BadCase fault) input old now = IsBadCase input fault × (now ≡ old)
+AnswersRun status.TooBig input old now = (input_limit < length input) × (now ≡ old)
+AnswersRun status.ReadFault input old now = now ≡ old
+AnswersRun status.WriteFault input old now = HasBegun input old now
+AnswersRun status.NoMemory input old now = (now ≡ old) ⊎ HasBegun input old now
+AnswersRun (status.Differs place) input old now = ⊥
+AnswersRun status.Usage input old now = ⊥
+
+-- of `check`, which writes nothing
+abbrev pub AnswersCheck : Status → List ℕ → Type 0
+AnswersCheck status.Ok input = HasItsTrace input false
+AnswersCheck status.Cut input = HasItsTrace input true
+AnswersCheck (status.Differs place) input = HasOtherTrace input place
+AnswersCheck (status.BadCase fault) input = IsBadCase input fault
+AnswersCheck status.TooBig input = input_limit < length input
+AnswersCheck status.ReadFault input = Unit {0}
+AnswersCheck status.NoMemory input = Unit {0}
+AnswersCheck status.WriteFault input = ⊥
+AnswersCheck status.Usage input = ⊥
+
+-- of each command
+abbrev pub Answers : Command → Status → List ℕ → Option (List ℕ) → Option (List ℕ) → Type 0
+Answers command.Run status input old now = AnswersRun status input old now
+Answers command.Lockstep status input old now = AnswersRun status input old now
+Answers command.Check status input old now = AnswersCheck status input × (now ≡ old)

@@ -108,7 +108,7 @@ fn put_rows<K: Sink>(
 }
 
 /// Writes what is gathered where that is much.
-fn put_if_full<K: Sink>(text: &mut Bytes, sink: &mut K) -> Result<(), WriteError>
+pub(crate) fn put_if_full<K: Sink>(text: &mut Bytes, sink: &mut K) -> Result<(), WriteError>
     ensures all { OnOk result (PutsOrKeeps (K.holds sink.old) (K.holds sink.new) text.new text.old) }
     ensures front { OnErr result (PutsFront (K.holds sink.old) (K.holds sink.new) text.old) }
     ensures fault { IsErrOf result WriteError.Fault → Rose (K.faults sink.old) (K.faults sink.new) }
