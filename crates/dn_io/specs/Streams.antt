@@ -15,11 +15,11 @@ before front told = option_map (λ rest. front ++ rest) told
 abbrev pub behind : Option (List ℕ) → List ℕ → Option (List ℕ)
 behind told more = option_map (λ held. held ++ more) told
 
--- the next count, which stands still at the end of 64 bits
+-- the next count; it stands still at the end of 64 bits
 abbrev pub counted : ℕ → ℕ
 counted n = min (n + 1) (2 ^ 64 - 1)
 
--- a count of faults rose
+-- a count of faults rose, or stands at its end
 abbrev pub Rose : ℕ → ℕ → Type 0
 Rose old now = counted old ≤ now
 

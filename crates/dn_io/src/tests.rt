@@ -188,3 +188,15 @@ fn errors_say_what_failed(rt: HostRuntime) -> Result<(), Fail> {
     );
     Ok(())
 }
+
+/// A source and a sink can be handed to another thread.
+fn can_be_sent<S: Source + Send, K: Sink + Send>(_source: &S, _sink: &K) {}
+
+#[test]
+fn all_can_be_sent(rt: HostRuntime) -> Result<(), Fail> {
+    let source = MemSource::new(Vec::new(rt.alloc()), Vec::new(rt.alloc()), 1);
+    let sink = MemSink::new(rt.alloc(), Vec::new(rt.alloc()), 1, 1)?;
+    can_be_sent(&source, &sink);
+    can_be_sent(&StdSource::new(rt.stdin()), &StdSink::new(rt.stdout()));
+    Ok(())
+}

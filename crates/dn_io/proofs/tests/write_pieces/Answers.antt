@@ -3,7 +3,7 @@ use Rattle.std.specs.List.{flat_map}
 use Rattle.std.proofs.lemmas.List.{take_more, flat_map_more, take-append-drop}
 use Rattle.std.proofs.lemmas.Grind.{flat_map-append}
 use Rattle.std.proofs.lemmas.Result.{err_from_is_err_and}
-use Rattle.dn_io.specs.Streams.{PutsFront, PutsOrKeeps}
+use Rattle.dn_io.specs.Streams.{PutsFront}
 use Rattle.dn_io.proofs.StreamLaws.{PutsOrKeeps-after, PutsOrKeeps-flush, PutsOrKeeps-front, PutsOrKeepsFront-after, PutsOrKeepsFront-front, PutsFront-longer}
 use Rattle.dn_io.proofs.tests.write_pieces.Goals as goal
 
@@ -46,6 +46,6 @@ returns-in_err-write-clause-front g c =
 
 pub returns-in_err-flush-clause-front : goal.returns-in_err-flush-clause-front
 returns-in_err-flush-clause-front g c =
-    let front = PutsOrKeeps-front (PutsOrKeeps-flush c.loop-piece.invariant.split c.in_err-flush.ensures.all) in
+    let front = PutsOrKeeps-front (PutsOrKeeps-flush c.loop-piece.invariant.split c.in_err-flush.ensures.moved) in
     let p = err_from_is_err_and c.from_residual-in_err-flush.result c.from_residual-in_err-flush.ensures.1 in
     rw p.1 (front-of-all c.args.pieces.now c.loop-piece.piece-index _ _ front)
