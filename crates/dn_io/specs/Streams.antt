@@ -48,6 +48,7 @@ pub record PutsFront (old now : Option (List ℕ)) (text : List ℕ) : Type 0 wh
 
 -- a front of the text was put behind what was held, and the rest of it is kept
 pub record PutsOrKeeps (old now : Option (List ℕ)) (kept text : List ℕ) : Type 0 where
+  -- what is held now and then what is kept is what was held and then the text
   pub whole : behind now kept ≡ behind old text
   pub rest : length kept ≤ length text
 
