@@ -32,18 +32,18 @@ tie_of_no_seed = refl
 -- ---- networks, feeds and rows by their numbers
 
 -- flooding routers, each with a name of one character
-abbrev routers_named : List ℕ → List RouterDef
+abbrev pub routers_named : List ℕ → List RouterDef
 routers_named [] = []
 routers_named (x ∷ xs) = record { name = x ∷ []; kind = Flood; prefixes = [] } ∷ routers_named xs
 
-abbrev flooding : ℕ → ℕ → ℕ → List ℕ → List Link → Network Bodies
+abbrev pub flooding : ℕ → ℕ → ℕ → List ℕ → List Link → Network Bodies
 flooding period groups seed names links = record {
   header = record { period = period; groups = groups; seed = seed; routers = routers_named names; links = links };
   guests = flood;
   opening = λ r. [];
 }
 
-abbrev link : ℕ → ℕ → ℕ → ℕ → ℕ → Link
+abbrev pub link : ℕ → ℕ → ℕ → ℕ → ℕ → Link
 link a a_port b b_port delay = record { a = a; a_port = a_port; b = b; b_port = b_port; delay = delay; cost = 1 }
 
 abbrev from_outside : ℕ → ℕ → Input → External
