@@ -169,7 +169,10 @@ fn the_ports_of_a_router(rt: HostRuntime) -> Result<(), Fail> {
     if let Some(header) = header {
         let far = ends(rt.alloc(), &header, 1)?;
         assert_eq!(rt; far.len(), 1);
-        assert_eq!(rt; (far[0].router, far[0].port, far[0].delay, far[0].cost), (0, 0, 25, 1));
+        assert_eq!(rt;
+            (far[0].router, far[0].port, far[0].delay, far[0].cost),
+            (0, 0, 25, 1)
+        );
         let node = opening(rt.alloc(), &header, 1, Flood::new(rt.alloc()))?;
         assert_eq!(rt; (node.ports, node.sends), (1, 0));
     }

@@ -1,17 +1,16 @@
 -- The equation: each step keeps the balance.
-use Rattle.std.proofs.Common.{◌≡◌, ℕ, zero, suc, ◌+◌, ◌<◌, ◌≤◌, Bool, true, false, not, ◌&&◌, eqb, List, [], ◌∷◌, ◌++◌, length, get_or, set, refl, sym, ap, ◌∙◌, subst, arith, append_assoc, append-nil}
+use Rattle.std.proofs.Common.{◌≡◌, ℕ, zero, suc, ◌+◌, ◌<◌, ◌≤◌, Bool, true, false, not, ◌&&◌, eqb, List, [], ◌∷◌, ◌++◌, length, get_or, set, refl, sym, ap, ◌∙◌, subst, arith, append-nil}
 use Rattle.std.specs.Prelude.{◌||◌, Option, Some, None, slice_get, nat_lt}
 use Rattle.std.specs.List.{filter, list_any, AllByRecursion}
 use Rattle.std.specs.Ordering.{is_gt}
 use Rattle.std.specs.Cmp.{upto}
 use Rattle.std.proofs.lemmas.Bool.{eqb-true, eqb-false, ltb-true}
 use Rattle.std.proofs.lemmas.List.{length-set, get_or-set_same, get_or-set_other}
-use Rattle.dn_guest.specs.Node.{node_after, node_sent}
-use Rattle.dn_guest.specs.declared.node.Node.{Node}
+use Rattle.dn_guest.specs.Node.{node_sent}
 use Rattle.dn_model.specs.declared.event.Event.{Event}
 use Rattle.dn_model.specs.declared.feed.External.{External}
 use Rattle.dn_model.specs.Order.{event_cmp, event_total}
-use Rattle.dn_model.specs.Network.{Network, Family, emitted, tick, ticks, external, externals, injected, is_at, joined, routers, opening_node, state_from, sent_from, state, sent, sent_to}
+use Rattle.dn_model.specs.Network.{Network, Family, emitted, tick, ticks, external, externals, injected, is_at, joined, routers, opening_node, sent_from, state, sent, sent_to}
 use Rattle.dn_lists.proofs.Lists.{by_test, filter_append}
 use Rattle.dn_lists.proofs.Sorting.{one_if, turn, count, count_filter, count_append, count_permutation, permutation_from_counts, rises_from_sorted, sorted_from_rises}
 use Rattle.dn_model.proofs.EventOrder.{event_same}

@@ -15,7 +15,6 @@ use Rattle.dn_guest.specs.declared.node.Node.{Node}
 use Rattle.dn_model.specs.declared.key.Key.{Key}
 use Rattle.dn_model.specs.declared.event.Event.{Event}
 use Rattle.dn_model.specs.declared.link.End.{End}
-use Rattle.dn_model.specs.declared.link.Link.{Link}
 use Rattle.dn_model.specs.declared.feed.External.{External}
 use Rattle.dn_model.specs.Cases.{Heading, timing_of}
 use Rattle.dn_model.specs.Links.{ends}

@@ -1,21 +1,15 @@
 -- No unsent message: each committed message was sent by committed rows.
-use Rattle.std.proofs.Common.{◌≡◌, ℕ, zero, suc, ◌*◌, ◌<◌, ◌≤◌, Bool, true, false, ltb, List, [], ◌∷◌, ◌++◌, length, take, refl, sym, ap, ◌∙◌, subst, arith, append-nil}
-use Rattle.std.specs.Prelude.{nat_lt, Option, Some, None}
+use Rattle.std.proofs.Common.{◌≡◌, ℕ, zero, suc, ◌<◌, ◌≤◌, Bool, true, false, ltb, List, [], ◌∷◌, ◌++◌, length, take, refl, sym, ap, ◌∙◌, subst, arith, append-nil}
 use Rattle.std.specs.List.{filter, AllByRecursion, count_by}
 use Rattle.std.specs.Ordering.{is_lt, is_gt}
 use Rattle.std.proofs.lemmas.Bool.{ltb-true, ltb-false, eqb-false}
-use Rattle.dn_model.specs.declared.key.Key.{Key}
 use Rattle.dn_model.specs.declared.event.Event.{Event}
 use Rattle.dn_model.specs.declared.feed.External.{External}
 use Rattle.dn_model.specs.Order.{event_cmp, event_total, is_below, sorted}
-use Rattle.dn_model.specs.declared.link.End.{End}
-use Rattle.dn_model.specs.Cases.{Heading}
-use Rattle.dn_model.specs.Keys.{message_key, next_key}
 use Rattle.dn_model.specs.Network.{Network, Family, emitted, tick, ticks, externals, injected, is_at, joined, opening_node, routers, sent, sent_from, sent_to}
 use Rattle.dn_guest.specs.Node.{node_after, node_sent}
 use Rattle.dn_guest.specs.declared.node.Node.{Node}
 use Rattle.dn_model.specs.Settled.{IsTimed, IsFeedOf, IsPrefixOf, below, due, lockstep, rows, row_limit}
-use Rattle.dn_guest.specs.declared.node.Sent.{Sent}
 use Rattle.dn_lists.proofs.Lists.{by_test, Falls, all_weaker, all_both, all_append, all_filter, pairs_weaker, pairs_filter, filter_append, filter_comm, filter_none}
 use Rattle.dn_lists.proofs.Sorting.{count, count_append, count_is_sum, all_in_order, turn}
 use Rattle.dn_model.proofs.EventOrder.{keys_rise, moments_rise, below_down}

@@ -26,8 +26,7 @@ pub fn equation<S>()
     ensures opening { (net : Network S) → IsBalanced net (opening (routers net)) }
     ensures step { (net : Network S) (w : World) (s : Step) → is_enabled net w s ≡ true → IsBalanced net w → IsBalanced net (after net w s) }
     ensures run { (net : Network S) (steps : List Step) → IsLegal net steps → IsBalanced net (world net steps) }
-{
-}
+{}
 
 /// Nothing comes before the boundary. Whatever still waits at a router or flies, and whatever may still come
 /// from outside, has a key at the boundary or past it. The horizon never falls, so a later Commit never moves
@@ -41,8 +40,7 @@ pub fn boundary<S>()
     ensures run { (net : Network S) (steps : List Step) → IsTimed net.header → IsLegal net steps → IsAllPast net (world net steps).boundary (world net steps) }
     ensures run_horizon { (net : Network S) (steps : List Step) (s : Step) → IsTimed net.header → IsLegal net steps → is_enabled net (world net steps) s ≡ true → IsPast (horizon net.header (world net steps)) (horizon net.header (after net (world net steps) s)) }
     ensures run_taken_off { (net : Network S) (steps : List Step) (r : ℕ) → IsTimed net.header → IsLegal net steps → is_enabled net (world net steps) (RollBack r) ≡ true → AllByRecursion (λ e. IsPast (world net steps).boundary e.key) (taken_off net (part (world net steps) r)) }
-{
-}
+{}
 
 /// What is committed is final. For every case that goes on where the world is, the committed rows are a
 /// front of the case's lockstep rows, those of each router are a front of its lockstep list, the router's
@@ -53,8 +51,7 @@ pub fn prefix<S>()
     ensures of_router { (net : Network S) (feed : List External) (steps : List Step) (r : ℕ) → IsPlayable net.header → IsFeedOf net.header feed → IsLegal net steps → Continues feed (world net steps) → r < routers net → IsPrefixOf (committed_at net (world net steps) r) (lockstep net feed r) }
     ensures state { (net : Network S) (feed : List External) (steps : List Step) (r : ℕ) → IsPlayable net.header → IsFeedOf net.header feed → IsLegal net steps → Continues feed (world net steps) → r < routers net → committed_state net (world net steps) r ≡ state net r (take (length (committed_at net (world net steps) r)) (lockstep net feed r)) }
     ensures cut { (net : Network S) (feed : List External) (steps : List Step) → IsPlayable net.header → IsFeedOf net.header feed → IsLegal net steps → Continues feed (world net steps) → is_cut_off net (world net steps) ≡ true → is_cut net feed ≡ true }
-{
-}
+{}
 
 /// No unsent message stands in a committed row. Each committed message is sent in the replay of its
 /// sender's own committed rows, as often as it is committed: at least as often where the trace is cut,
@@ -62,8 +59,7 @@ pub fn prefix<S>()
 pub fn unsent<S>()
     ensures sent { (net : Network S) (steps : List Step) (e : Event) → IsPlayable net.header → IsLegal net steps → e.key.class ≡ 2 → count_by (is_same e) (committed net (world net steps)) ≤ count_by (is_same e) (sent net e.key.origin (committed_at net (world net steps) e.key.origin)) }
     ensures sent_uncut { (net : Network S) (steps : List Step) (e : Event) → IsPlayable net.header → IsLegal net steps → e.key.class ≡ 2 → is_cut_off net (world net steps) ≡ false → 0 < count_by (is_same e) (committed net (world net steps)) → count_by (is_same e) (committed net (world net steps)) ≡ count_by (is_same e) (sent net e.key.origin (committed_at net (world net steps) e.key.origin)) }
-{
-}
+{}
 
 /// A world in which nothing waits or flies is the end of the run. No sending is left to be taken back, each
 /// router has handled its whole lockstep list of the externals that were accepted, and once the boundary is
@@ -73,8 +69,7 @@ pub fn quiet<S>()
     ensures done { (net : Network S) (steps : List Step) (r : ℕ) → IsPlayable net.header → IsLegal net steps → is_quiet (world net steps) ≡ true → r < routers net → (part (world net steps) r).done ≡ lockstep net (world net steps).accepted r }
     ensures rows { (net : Network S) (steps : List Step) → IsPlayable net.header → IsLegal net steps → is_quiet (world net steps) ≡ true → (world net steps).boundary ≡ horizon net.header (world net steps) → committed net (world net steps) ≡ shown_rows net (world net steps).accepted }
     ensures cut { (net : Network S) (steps : List Step) → IsPlayable net.header → IsLegal net steps → is_quiet (world net steps) ≡ true → (world net steps).boundary ≡ horizon net.header (world net steps) → is_cut_off net (world net steps) ≡ is_cut net (world net steps).accepted }
-{
-}
+{}
 
 /// Runs, one step after another: a legal run goes on by any step that is enabled in its world. The accepted
 /// externals are those that the run injected, they are a feed of the header, and the case of just these goes
@@ -86,8 +81,7 @@ pub fn runs<S>()
     ensures accepted_case { (net : Network S) (steps : List Step) → IsPlayable net.header → IsLegal net steps → IsFeedOf net.header (world net steps).accepted }
     ensures own_case { (w : World) → Continues w.accepted w }
     ensures whole_case { (net : Network S) (feed : List External) (steps : List Step) → IsLegalOf net feed steps → (world net steps).closed ≡ true → (world net steps).accepted ≡ feed }
-{
-}
+{}
 
 /// What code may keep of a router: in every world what a router has to handle and what it has to take out
 /// are in order, and no event stands in both. Two such parts with one handled list, and with equal counts of
@@ -100,8 +94,7 @@ pub fn tidy_parts<S>()
     ensures todo { (e : Event) (p : Part) → IsTidy p → with_todo (e ∷ []) p ≡ (if stands e p.voids then record p { voids = without e p.voids } else record p { todo = put_in_order event_cmp e p.todo }) }
     ensures voids { (e : Event) (p : Part) → IsTidy p → with_void e p ≡ (if stands e p.todo then record p { todo = without e p.todo } else record p { voids = put_in_order event_cmp e p.voids }) }
     ensures one_by_one { (es fs : List Event) (p : Part) → IsTidy p → with_todo (es ++ fs) p ≡ with_todo es (with_todo fs p) }
-{
-}
+{}
 
 /// Each step adds the rows that are new below the boundary, in order, and takes none away: where the
 /// boundary stays the rows stay, and what is cut stays cut. A quiet world whose boundary is at the horizon
@@ -112,8 +105,7 @@ pub fn growth<S>()
     ensures committed { (net : Network S) (w : World) (s : Step) → is_enabled net w s ≡ true → IsBalanced net w → IsAllPast net w.boundary w → IsPrefixOf (committed net w) (committed net (after net w s)) }
     ensures cut { (net : Network S) (w : World) (s : Step) → is_enabled net w s ≡ true → IsBalanced net w → IsAllPast net w.boundary w → is_cut_off net w ≡ true → is_cut_off net (after net w s) ≡ true }
     ensures ended { (net : Network S) (w : World) (s : Step) → is_quiet w ≡ true → w.boundary ≡ horizon net.header w → is_enabled net w s ≡ true → after net w s ≡ w }
-{
-}
+{}
 
 /// The horizon is the one key that is no later than all that waits, all that flies and all that may still
 /// come from outside, and than which no such key is later.
@@ -121,8 +113,7 @@ pub fn horizon<S>()
     ensures lower { (net : Network S) (w : World) → IsAllPast net (horizon net.header w) w }
     ensures greatest { (net : Network S) (w : World) (b : Key) → IsAllPast net b w → IsPast b (horizon net.header w) }
     ensures only { (a b : Key) → IsPast a b → IsPast b a → a ≡ b }
-{
-}
+{}
 
 /// Replays go on from the node that a front of the history leaves, so a kept node at a place serves in place
 /// of the whole replay. What a rollback keeps and what it takes off are the handled list.
@@ -132,8 +123,7 @@ pub fn replays<S>()
     ensures sent { (net : Network S) (r : ℕ) (xs ys : List Event) → sent net r (xs ++ ys) ≡ sent net r xs ++ sent_from net (state net r xs) ys }
     ensures sent_more { (net : Network S) (r : ℕ) (xs : List Event) (e : Event) → sent net r (xs ++ e ∷ []) ≡ sent net r xs ++ emits net r xs e }
     ensures done { (net : Network S) (p : Part) → kept net p ++ taken_off net p ≡ p.done }
-{
-}
+{}
 
 /// A run that feeds a case as its groups ask is legal, and where the groups of the case don't fall the case
 /// goes on where its world is: a Beacon only where the next external, if there is one, is of a later group,
@@ -141,5 +131,4 @@ pub fn replays<S>()
 pub fn fed_runs<S>()
     ensures legal { (net : Network S) (feed rest : List External) (steps : List Step) → IsFedFrom net (opening (routers net)) feed steps rest → IsLegal net steps }
     ensures continues { (net : Network S) (feed rest : List External) (steps : List Step) → DontFall feed → IsFedFrom net (opening (routers net)) feed steps rest → Continues feed (world net steps) }
-{
-}
+{}
