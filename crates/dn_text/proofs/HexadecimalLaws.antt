@@ -125,13 +125,15 @@ of_pairs (c ∷ d ∷ cs) even all =
     let below : b % 16 ≡ digit_value d = omega arith in
     let read : byte_of c d ≡ Some b = rw (first.0, second.0) refl in
     let c-is : digit (b / 16) ≡ c = ap digit above ∙ digit_of_value c first.0 in
-    let d-is : digit (b % 16) ≡ d = ap digit below ∙ digit_of_value d second.0 in
-    (b ∷ rest.0, record {
-      read = ap (λ (o : Option ℕ). behind o (pairs cs)) read ∙ ap (λ (o : Option (List ℕ)). option_map (λ bytes. b ∷ bytes) o) rest.1.read;
-      same = ap (λ (x : ℕ). x ∷ digit (b % 16) ∷ hex rest.0) c-is ∙ ap (λ (x : ℕ). c ∷ x ∷ hex rest.0) d-is ∙ ap (λ (x : List ℕ). c ∷ d ∷ x) rest.1.same;
-      small = (omega arith, rest.1.small);
-      width = omega (arith, rest.1.width);
-    })
+    let d-is : digit (b % 16) ≡ d = ap digit below ∙ digit_of_value d second.0 in (
+      b ∷ rest.0,
+      record {
+        read = ap (λ (o : Option ℕ). behind o (pairs cs)) read ∙ ap (λ (o : Option (List ℕ)). option_map (λ bytes. b ∷ bytes) o) rest.1.read;
+        same = ap (λ (x : ℕ). x ∷ digit (b % 16) ∷ hex rest.0) c-is ∙ ap (λ (x : ℕ). c ∷ x ∷ hex rest.0) d-is ∙ ap (λ (x : List ℕ). c ∷ d ∷ x) rest.1.same;
+        small = (omega arith, rest.1.small);
+        width = omega (arith, rest.1.width);
+      },
+    )
 
 unhex_some : (field : List ℕ) → 0 < length field → unhex field ≡ pairs field
 unhex_some [] some = absurd (omega arith)

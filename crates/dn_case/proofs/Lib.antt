@@ -1,0 +1,16 @@
+pub mod PartLaws
+pub mod Texts
+pub mod RouterLaws
+pub mod FeedLaws
+pub mod LinkLaws
+pub mod Leading
+pub mod Taken
+pub mod Sound
+pub mod Finishing
+pub mod Judging
+pub mod OneCase
+pub mod Fields
+pub mod Spelled
+pub mod RoundTrip
+pub mod Fronts
+pub mod TraceSectionLaws

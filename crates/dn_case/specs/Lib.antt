@@ -1,0 +1,6 @@
+pub mod Shapes
+pub mod Spelling
+pub mod Standings
+pub mod Takings
+pub mod Reading
+pub mod TraceSections

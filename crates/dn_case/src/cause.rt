@@ -1,0 +1,66 @@
+//! What is wrong with a text.
+
+ghost use Rattle.std.specs.Prelude.{◌≡◌};
+ghost use Rattle.dn_case.specs.declared.cause.LineError.TheVariants.{NoMemory as Memory};
+
+use std::alloc::AllocError;
+
+/// What is wrong with a line. Where several causes hold for one line, the first of this order is told.
+#[derive(Clone, Copy, Debug)]
+pub enum Cause {
+    /// The text ends where a line should begin.
+    Ended,
+    /// The line has no newline, or none of the shapes that may stand at its place.
+    Syntax,
+    /// The first line is `defined N` with another decimal than 1.
+    Version,
+    /// A number is outside its range.
+    Range,
+    /// A router's name isn't known.
+    Name,
+    /// A link has one router at both ends.
+    Same,
+    /// A router's name, or a prefix at one router, stood before.
+    Twice,
+    /// A prefix is at a flooding router.
+    Kind,
+    /// An address has bits past its length.
+    Host,
+    /// The 65th router, the 257th link, a 17th port, or a 33rd prefix of a router.
+    Many,
+    /// An external's group is below that of the one before.
+    Order,
+    /// The port isn't a port of that router.
+    Port,
+    /// A journal is missing, or has no reading. It never comes of a case's text.
+    Journal,
+}
+
+/// The first bad line, counted from 1, and what is wrong with it.
+#[derive(Clone, Copy, Debug)]
+pub struct CaseFault {
+    pub line: u64,
+    pub cause: Cause,
+}
+
+/// Why a text gives no case.
+#[derive(Debug, Drop)]
+pub enum CaseError {
+    Fault(CaseFault),
+    NoMemory,
+}
+
+/// Why a line isn't taken.
+#[derive(Debug, Drop)]
+pub enum LineError {
+    Bad(Cause),
+    NoMemory,
+}
+
+impl From<AllocError> for LineError {
+    ghost from_gives = { λ _ e. e ≡ Memory };
+
+    fn from(_error: AllocError) -> LineError {
+        LineError::NoMemory
+    }
+}
