@@ -13,3 +13,4 @@ pub mod Fields
 pub mod Spelled
 pub mod RoundTrip
 pub mod Fronts
+pub mod TraceSectionLaws

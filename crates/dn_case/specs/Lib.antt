@@ -3,3 +3,4 @@ pub mod Spelling
 pub mod Standings
 pub mod Takings
 pub mod Reading
+pub mod TraceSections

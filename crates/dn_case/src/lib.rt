@@ -16,6 +16,7 @@
 //! | `link_lines.rt`, `prefix_lines.rt`, `external_lines.rt` | the further lines of the three sections behind the routers |
 //! | `read.rt` | `read_case` |
 //! | `write.rt` | `write_case` |
+//! | `trace_section.rt` | `split_trace` |
 //! | `laws.rt` | laws over all texts |
 //!
 //! The contracts upwards: `read_case` answers a case exactly where a front of the text is a case text of
@@ -36,6 +37,7 @@ mod prefix_lines;
 mod read;
 mod shape;
 mod standing;
+mod trace_section;
 mod write;
 
 pub use cause::{CaseError, CaseFault, Cause};
@@ -44,4 +46,5 @@ pub use laws::{
     a_written_case_is_read,
 };
 pub use read::read_case;
+pub use trace_section::split_trace;
 pub use write::write_case;

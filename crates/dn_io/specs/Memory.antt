@@ -1,4 +1,4 @@
--- A source and a sink in memory.
+-- A source and a sink in memory, and what a call does to them.
 use Rattle.std.specs.Prelude.{◌≡◌, ℕ, List, drop, ◌++◌, take}
 use Rattle.dn_io.specs.Streams.{counted}
 use Rattle.dn_io.specs.declared.source.Took.{Took}
@@ -6,6 +6,7 @@ use Rattle.dn_io.specs.declared.source.Took.TheVariants as took
 use Rattle.dn_io.specs.declared.sink.Put.{Put}
 use Rattle.dn_io.specs.declared.sink.Put.TheVariants as put
 
+-- a source in memory
 pub record Giving : Type 0 where
   pub left : List ℕ
   -- the numbers of the calls that fail
@@ -16,6 +17,7 @@ pub record Giving : Type 0 where
   pub calls : ℕ
   pub failed : ℕ
 
+-- a sink in memory
 pub record Taking : Type 0 where
   pub held : List ℕ
   -- how much it holds at most

@@ -1,5 +1,5 @@
 -- Sources and sinks over std's readers and writers, of whose bytes std says what is known.
-use Rattle.std.specs.Prelude.{ℕ, List, [], length, take, Option}
+use Rattle.std.specs.Prelude.{ℕ, List, [], take, Option}
 use Rattle.std.specs.Io.KnownBytes.{Keeps, Appends, Consumes, IsAtEnd}
 use Rattle.dn_io.specs.declared.source.Took.{Took}
 use Rattle.dn_io.specs.declared.source.Took.TheVariants as took

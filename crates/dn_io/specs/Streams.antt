@@ -15,17 +15,19 @@ before front told = option_map (λ rest. front ++ rest) told
 abbrev pub behind : Option (List ℕ) → List ℕ → Option (List ℕ)
 behind told more = option_map (λ held. held ++ more) told
 
--- the next count, which stands still at the end of 64 bits
+-- the next count; it stands still at the end of 64 bits
 abbrev pub counted : ℕ → ℕ
 counted n = min (n + 1) (2 ^ 64 - 1)
 
--- a count of faults rose
+-- a count of faults rose, or stands at its end
 abbrev pub Rose : ℕ → ℕ → Type 0
 Rose old now = counted old ≤ now
 
 -- some bytes came from the front of what was left, and P holds of them
-abbrev pub Gives : Option (List ℕ) → Option (List ℕ) → (List ℕ → Type 0) → Type 0
-Gives old now P = (came : List ℕ) × P came × (old ≡ before came now)
+pub record Gives (old now : Option (List ℕ)) (P : List ℕ → Type 0) : Type 0 where
+  pub came : List ℕ
+  pub holds : P came
+  pub told : old ≡ before came now
 
 -- what a read does to what is left
 abbrev pub Reads : Took → Option (List ℕ) → Option (List ℕ) → List ℕ → Type 0
@@ -38,15 +40,20 @@ abbrev pub Writes : Put → Option (List ℕ) → Option (List ℕ) → List ℕ
 Writes (put.Bytes n) old now piece = (n ≤ length piece) × (0 < length piece → 0 < n) × (now ≡ behind old (take n piece))
 Writes put.Failed old now piece = now ≡ old
 
--- a front of the bytes was put behind what was held
-abbrev pub PutsFront : Option (List ℕ) → Option (List ℕ) → List ℕ → Type 0
-PutsFront old now bytes = (n : ℕ) × (n ≤ length bytes) × (now ≡ behind old (take n bytes))
+-- a front of the text, of so many bytes, was put behind what was held
+pub record PutsFront (old now : Option (List ℕ)) (text : List ℕ) : Type 0 where
+  pub count : ℕ
+  pub within : count ≤ length text
+  pub put : now ≡ behind old (take count text)
 
 -- a front of the text was put behind what was held, and the rest of it is kept
 pub record PutsOrKeeps (old now : Option (List ℕ)) (kept text : List ℕ) : Type 0 where
+  -- what is held now and then what is kept is what was held and then the text
   pub whole : behind now kept ≡ behind old text
   pub rest : length kept ≤ length text
 
--- the same of the bytes that were kept and then a front of the piece
-abbrev pub PutsOrKeepsFront : Option (List ℕ) → Option (List ℕ) → List ℕ → List ℕ → List ℕ → Type 0
-PutsOrKeepsFront old now kept before piece = (n : ℕ) × (n ≤ length piece) × PutsOrKeeps old now kept (before ++ take n piece)
+-- the same of what was kept before and a front of the piece, of so many bytes
+pub record PutsOrKeepsFront (old now : Option (List ℕ)) (kept before piece : List ℕ) : Type 0 where
+  pub count : ℕ
+  pub within : count ≤ length piece
+  pub split : PutsOrKeeps old now kept (before ++ take count piece)

@@ -1,9 +1,9 @@
 //! The outside of the program: where bytes come from, where they go, and how both may fail.
 //!
 //! A `Source` gives bytes and a `Sink` takes them. What a source has left and what a sink holds are
-//! their meanings, where they tell it: those in memory do, standard input and output don't. Each
+//! their meanings, where they tell them: those in memory do, standard input and output don't. Each
 //! counts its faults, and that count never falls; a call fails only where it rose. So a caller can
-//! state, for every source and sink, what was read, what was written and whose fault a failure is.
+//! state for every source and sink what was read, what was written and whose fault a failure is.
 //!
 //! | File | What it has |
 //! |---|---|
@@ -11,12 +11,16 @@
 //! | `sink.rt` | the trait `Sink`, and `Put`, the answer of a write |
 //! | `read.rt` | `read_all`, reading to the end within a limit |
 //! | `write.rt` | `put_all`, writing all of some bytes |
-//! | `output.rt` | `OutputBuffer`, which gathers pieces and hands the sink whole buffers |
-//! | `memory.rt` | `MemSource` and `MemSink`, which tell all and fail at the calls they are told |
+//! | `output.rt` | `OutputBuffer`, which gathers small pieces and hands a sink whole buffers |
+//! | `memory.rt` | `MemSource` and `MemSink`, which tell all and fail at the calls that they are told |
 //! | `standard.rt` | `StdSource` and `StdSink`, over std's readers and writers |
 //!
-//! The one contract upwards is that of the traits, in the words of `specs/Streams.antt`: bytes come
-//! and go in order, none is lost or made up, and a failure has its cause in a count.
+//! The one contract upwards is that of the two traits, in the words of `specs/Streams.antt`: bytes
+//! come and go in order, none is lost or made up, and a failure has its cause in a count. Laws about
+//! those words, for callers that write one piece after another, stand in `proofs/StreamLaws.antt`.
+//!
+//! The answers are those of `read()` and `write()` in POSIX.1-2017: a number of bytes, which may be
+//! fewer than were asked for, the end of the input, or a failure.
 #![tactic(auto)]
 
 mod memory;

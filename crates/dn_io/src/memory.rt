@@ -3,8 +3,8 @@ ghost use Rattle.std.specs.Prelude.{◌≡◌, ◌<◌, ◌≤◌, ◌-◌, ◌�
 ghost use Rattle.dn_io.specs.Streams.{Reads, Writes, Rose};
 ghost use Rattle.dn_io.specs.Memory.{AfterRead, AfterWrite, IfTook, IfPut};
 
-use crate::{Put, Sink, Source, Took};
-use std::alloc::{AllocError, Global};
+use crate::{NoMemory, Put, Sink, Source, Took};
+use std::alloc::Global;
 use std::marker::Model;
 
 /// A source in memory. Calls are numbered from 0; it fails at the calls that it was told.
@@ -126,7 +126,7 @@ impl Model for MemSink {
 impl MemSink {
     /// An empty sink with room for `room` bytes, whose memory it takes here. It takes at most `piece`
     /// bytes at a call, and fails at the calls whose numbers stand in `fails`.
-    pub fn new(alloc: Global, fails: Vec<u64>, piece: u64, room: u64) -> Result<MemSink, AllocError>
+    pub fn new(alloc: Global, fails: Vec<u64>, piece: u64, room: u64) -> Result<MemSink, NoMemory>
         requires { 1 ≤ piece }
         ensures { IfOk result (λ made. made ≡ record { held = []; room = room; fails = fails.items; piece = piece; calls = 0; failed = 0 }) }
     {

@@ -3,8 +3,8 @@ ghost use Rattle.std.specs.Prelude.{◌≡◌, ◌≤◌, [], ◌++◌, IfOk, On
 ghost use Rattle.dn_io.specs.Streams.{Rose, PutsOrKeeps, PutsOrKeepsFront};
 
 use crate::write::put_front;
-use crate::{Sink, WriteFault, put_all};
-use std::alloc::{AllocError, Global};
+use crate::{NoMemory, Sink, WriteFault, put_all};
+use std::alloc::Global;
 use std::marker::Model;
 
 /// How many bytes an output buffer has room for.
@@ -12,8 +12,13 @@ const ROOM: usize = 65_536;
 
 /// Bytes on their way to a sink. It gathers small pieces and hands the sink whole buffers.
 ///
-/// It doesn't hold the sink: each call is given it. What the sink holds and then what is kept here is
-/// what was written so far; `flush` empties the buffer. Seen as the list of the bytes that it keeps.
+/// It doesn't hold the sink: each call is given it, and always the same one. What the sink holds and
+/// then what is kept here is what was written so far, also after a fault. `flush` empties the buffer;
+/// nothing else does. Seen as the list of the bytes that it keeps.
+///
+/// A text of many rows is written by making each row in a `Vec` and writing it whole, and a `flush`
+/// at the end: `write_pieces` of `tests.rt` shows that then the sink holds all, or after a fault a
+/// front of the text.
 #[derive(Drop)]
 pub struct OutputBuffer {
     bytes: Vec<u8>,
@@ -29,7 +34,7 @@ impl Model for OutputBuffer {
 
 impl OutputBuffer {
     /// An empty buffer. It takes its memory here, for 65,536 bytes, and none later.
-    pub fn new(alloc: Global) -> Result<OutputBuffer, AllocError>
+    pub fn new(alloc: Global) -> Result<OutputBuffer, NoMemory>
         ensures { IfOk result (λ made. made ≡ []) }
     {
         let bytes = Vec::with_capacity(alloc, ROOM)?;
@@ -80,7 +85,7 @@ impl OutputBuffer {
     /// Writes what is kept into the sink. At a fault the bytes that the sink didn't take are still
     /// kept. It takes no memory.
     pub fn flush<K: Sink>(&mut self, sink: &mut K) -> Result<(), WriteFault>
-        ensures all { PutsOrKeeps (K.holds sink.old) (K.holds sink.new) self.new self.old }
+        ensures moved { PutsOrKeeps (K.holds sink.old) (K.holds sink.new) self.new self.old }
         ensures empty { OnOk result (self.new ≡ []) }
         ensures fault { OnErr result (Rose (K.faults sink.old) (K.faults sink.new)) }
         ensures later { K.faults sink.old ≤ K.faults sink.new }

@@ -30,10 +30,10 @@ pub fn read_all<S: Source>(alloc: Global, source: &mut S, limit: u64) -> Result<
     ensures none_left { OnOk result (IfSome (S.left source.new) (λ left. left ≡ [])) }
     ensures small { IfOk result (λ all. length all.items ≤ limit) }
 
-    // More than `limit` bytes came exactly at TooBig.
-    ensures too_many { IsErrOf result ReadError.TooBig
+    // What came is a front of what was left. It is more than `limit` bytes exactly at TooBig.
+    ensures over_limit { IsErrOf result ReadError.TooBig
         → Gives (S.left source.old) (S.left source.new) (λ came. limit < length came) }
-    ensures not_too_many { result ≢ Err ReadError.TooBig
+    ensures within_limit { result ≢ Err ReadError.TooBig
         → Gives (S.left source.old) (S.left source.new) (λ came. length came ≤ limit) }
     ensures too_big { IsErrOf result ReadError.TooBig
         → IfSome (S.left source.old) (λ left. limit < length left) }

@@ -1,5 +1,5 @@
 -- What is emitted comes later than its cause, and all that is due comes before the end of the last group.
-use Rattle.std.proofs.Common.{◌≡◌, ℕ, zero, suc, ◌+◌, ◌*◌, ◌<◌, ◌≤◌, Bool, true, false, ◌&&◌, Option, Some, None, List, [], ◌∷◌, refl, arith}
+use Rattle.std.proofs.Common.{◌≡◌, ℕ, zero, suc, ◌+◌, ◌*◌, ◌<◌, ◌≤◌, Bool, true, false, Option, Some, None, List, [], ◌∷◌, refl, arith}
 use Rattle.std.specs.Prelude.{nat_lt, ◌==◌, if◌then◌else◌, slice_get}
 use Rattle.std.proofs.Math.Nat.{mul-lt-mul_of_pos_right, mod-lt}
 use Rattle.std.proofs.lemmas.Nat.{div-add-mod'}
@@ -62,7 +62,7 @@ whenever_get P (x ∷ xs) zero a = a.0
 whenever_get P (x ∷ xs) (suc i) a = whenever_get P xs i a.1
 
 -- each far end has the delay of a link
-ends_delay : (ls : List Link) (r : ℕ) → AllByRecursion (λ l. 0 < l.delay) ls → AllByRecursion (λ end. 0 < end.delay) (ends ls r)
+pub ends_delay : (ls : List Link) (r : ℕ) → AllByRecursion (λ l. 0 < l.delay) ls → AllByRecursion (λ end. 0 < end.delay) (ends ls r)
 unfolding ends link_end
 ends_delay [] r a = tt
 ends_delay (l ∷ ls) r a = and_more (λ end. 0 < end.delay) (link_end r l) (ends ls r) (at l a.0) (ends_delay ls r a.1)
@@ -122,10 +122,16 @@ injected_ok h p feed a r =
     (ticks_ok h p r h.groups (omega arith))
     (all_filter (IsTimely h) (is_at r) (externals 0 feed) (externals_ok h p feed a 0))
 
-all_joined : (P : Event → Type 0) (n : ℕ) (f : Family) → ((s : ℕ) → AllByRecursion P (f s)) → AllByRecursion P (joined n f)
+-- what each element of each history has
+pub all_joined : (P : Event → Type 0) (n : ℕ) (f : Family) → ((s : ℕ) → AllByRecursion P (f s)) → AllByRecursion P (joined n f)
 unfolding joined
 all_joined P zero f h = tt
 all_joined P (suc n) f h = all_append P (joined n f) (f n) (all_joined P n f h) (h n)
+
+pub all_joined_below : (P : Event → Type 0) (n : ℕ) (f : Family) → ((s : ℕ) → s < n → AllByRecursion P (f s)) → AllByRecursion P (joined n f)
+unfolding joined
+all_joined_below P zero f h = tt
+all_joined_below P (suc n) f h = all_append P (joined n f) (f n) (all_joined_below P n f (λ s l. h s (omega arith))) (h n (omega arith))
 
 module _ {S : Type 0} (net : Network S) (timed : IsTimed net.header) where
   sent_from_ok : (node : Node S) (es : List Event) → AllByRecursion (IsTimely net.header) (sent_from net node es)

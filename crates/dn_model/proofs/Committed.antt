@@ -43,7 +43,7 @@ module _ {S : Type 0} (net : Network S) (feed : List External) (timed : IsTimed 
 -- ---- where a message comes from
 
 -- a message, sent by s
-abbrev IsFrom : ℕ → Event → Type 0
+abbrev pub IsFrom : ℕ → Event → Type 0
 IsFrom s e = (e.key.class ≡ 2) × (e.key.origin ≡ s)
 
 abbrev IsFromKey : ℕ → Key → Type 0

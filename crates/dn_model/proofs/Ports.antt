@@ -1,6 +1,6 @@
 -- What the rules of a header give: few ports, and links that take time and join its routers.
-use Rattle.std.proofs.Common.{◌≡◌, ℕ, suc, ◌+◌, ◌<◌, ◌≤◌, Bool, true, false, cond, List, [], ◌∷◌, ◌++◌, Option, Some, None, length, refl, sym, ap, ◌∙◌, subst, arith, append_assoc, append-nil}
-use Rattle.std.specs.Prelude.{count_by, ◌==◌, ◌||◌, if◌then◌else◌}
+use Rattle.std.proofs.Common.{◌≡◌, ℕ, ◌+◌, ◌<◌, ◌≤◌, Bool, true, cond, List, [], ◌∷◌, ◌++◌, Option, Some, None, length, refl, sym, ap, ◌∙◌, subst, arith, append_assoc, append-nil}
+use Rattle.std.specs.Prelude.{◌==◌}
 use Rattle.std.specs.List.{AllByRecursion, cons_option}
 use Rattle.std.proofs.lemmas.List.Sums.{sum_by-append, sum_by-cons}
 use Rattle.std.proofs.lemmas.Bool.{eqb-true}
@@ -9,7 +9,7 @@ use Rattle.dn_model.specs.declared.link.Link.{Link}
 use Rattle.dn_model.specs.declared.link.End.{End}
 use Rattle.dn_model.specs.declared.feed.External.{External}
 use Rattle.dn_model.specs.Links.{names, ports_of, link_end, ends}
-use Rattle.dn_model.specs.Cases.{Heading, IsHeading, IsLink, AreLinks, IsExternal, AreExternals}
+use Rattle.dn_model.specs.Cases.{Heading, IsHeading, IsLink, AreLinks, AreExternals}
 use Rattle.dn_model.specs.Settled.{IsTimed, IsFeedOf}
 
 abbrev one_if : Bool → ℕ
@@ -47,8 +47,8 @@ one_more count before l is r few =
     rw ports_more
     (by_test (names r l)
     (λ h. by_test (l.a == r)
-      (λ k. let e : l.a ≡ r = eqb-true l.a r k in let f : ports_of before l.a ≡ ports_of before r = ap (ports_of before) e in rw h (omega (arith, is.a_port, is.ports, f)))
-      (λ k. let g : (l.b == r) ≡ true = simp k at h in let e : l.b ≡ r = eqb-true l.b r g in let f : ports_of before l.b ≡ ports_of before r = ap (ports_of before) e in rw h (omega (arith, is.b_port, is.ports, f))))
+    (λ k. let e : l.a ≡ r = eqb-true l.a r k in let f : ports_of before l.a ≡ ports_of before r = ap (ports_of before) e in rw h (omega (arith, is.a_port, is.ports, f)))
+    (λ k. let g : (l.b == r) ≡ true = simp k at h in let e : l.b ≡ r = eqb-true l.b r g in let f : ports_of before l.b ≡ ports_of before r = ap (ports_of before) e in rw h (omega (arith, is.b_port, is.ports, f))))
     (λ h. rw h (omega arith)))
 
 links_few : (count : ℕ) (before ls : List Link) → AreLinks count before ls → (r : ℕ) → ports_of before r ≤ 16 → ports_of (before ++ ls) r ≤ 16

@@ -25,7 +25,7 @@ use Rattle.dn_model.specs.SoFar.{by_router, IsRunSoFar, IsWired, all_injected, n
 use Rattle.dn_lists.proofs.Lists.{by_test, all_weaker, all_both, all_append, filter_append, filter_none, filter_all}
 use Rattle.dn_lists.proofs.Sorting.{count, count_permutation, count_filter, count_append, rises_from_sorted, sorted_from_rises, permutation_from_counts}
 use Rattle.dn_model.proofs.EventOrder.{event_same, events_from_moments}
-use Rattle.dn_model.proofs.Causes.{Whenever, whenever_if, whenever_get, and_more, all_filter_map, IsTimely, IsEffect, emitted_ok, due_ok}
+use Rattle.dn_model.proofs.Causes.{Whenever, whenever_if, whenever_get, and_more, all_filter_map, all_joined_below, IsTimely, IsEffect, emitted_ok, due_ok}
 use Rattle.dn_model.proofs.Waves.{all_of}
 use Rattle.dn_model.proofs.Rows.{joined_filter, joined_same, passing, pairs_append, all_front, all_back, all_permutation}
 
@@ -69,7 +69,7 @@ at_itself e = eq-eqb e.router e.router refl
 module _ {S : Type 0} (net : Network S) where
   -- ---- a history with one more event
 
-  sent_from_append : (node : Node S) (xs ys : List Event) → sent_from net node (xs ++ ys) ≡ sent_from net node xs ++ sent_from net (state_from net node xs) ys
+  pub sent_from_append : (node : Node S) (xs ys : List Event) → sent_from net node (xs ++ ys) ≡ sent_from net node xs ++ sent_from net (state_from net node xs) ys
   unfolding sent_from state_from
   sent_from_append node [] ys = refl
   sent_from_append node (x ∷ xs) ys =
@@ -239,11 +239,6 @@ module _ {S : Type 0} (net : Network S) where
   injected_at n feed r =
       all_append (λ e. e.router ≡ r) (ticks n r) (filter (is_at r) (externals 0 feed)) (ticks_at n r)
       (all_weaker (λ e. is_at r e ≡ true) (λ e. e.router ≡ r) (filter (is_at r) (externals 0 feed)) (λ e h. eqb-true e.router r h) (passing (is_at r) (externals 0 feed)))
-
-  all_joined_below : (P : Event → Type 0) (n : ℕ) (f : Family) → ((s : ℕ) → s < n → AllByRecursion P (f s)) → AllByRecursion P (joined n f)
-  unfolding joined
-  all_joined_below P zero f h = tt
-  all_joined_below P (suc n) f h = all_append P (joined n f) (f n) (all_joined_below P n f (λ s l. h s (omega arith))) (h n (omega arith))
 
   all_trivial : (xs : List Event) → AllByRecursion (λ w. Unit {0}) xs
   all_trivial xs = all_of xs (λ w. tt)

@@ -1,5 +1,5 @@
 -- A network: what its events emit, what is injected, and the replay of a history.
-use Rattle.std.specs.Prelude.{ℕ, zero, suc, ◌+◌, ◌-◌, ◌^◌, Bool, ◌&&◌, ◌==◌, if◌then◌else◌, Option, Some, None, List, [], ◌∷◌, ◌++◌, length, slice_get}
+use Rattle.std.specs.Prelude.{ℕ, zero, suc, ◌-◌, ◌^◌, Bool, ◌==◌, Option, Some, None, List, [], ◌∷◌, ◌++◌, length, slice_get}
 use Rattle.std.specs.List.{filter, filter_map}
 use Rattle.dn_guest.specs.declared.input.Input.TheVariants.{Tick, Msg}
 use Rattle.dn_guest.specs.declared.node.Sent.{Sent}

@@ -21,7 +21,8 @@
 //! lockstep lists are a settled family and no other is. Whatever handles events so that each router's
 //! history is sorted and holds just what is due has therefore done the lockstep run.
 //!
-//! `specs/Computes` in `proofs/` has runs of small networks that are computed by the definitions alone.
+//! `proofs/Computes.antt` has runs of small networks, with all their rows and states, that the definitions
+//! alone compute.
 #![tactic(auto)]
 
 mod case;
@@ -51,3 +52,6 @@ pub use router::{Kind, Prefix, Prefixes, RouterDef, Routers};
 pub use start::{opening, row_limit};
 pub use ties::{fin, tie};
 pub use timing::Timing;
+
+#[cfg(test)]
+mod tests;

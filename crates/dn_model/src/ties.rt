@@ -1,7 +1,7 @@
 //! Ties: the order of messages that come at one moment, drawn from the seed.
 
-ghost use Rattle.std.specs.Prelude.{◌≡◌};
-ghost use Rattle.dn_model.specs.Keys.{fin, tie};
+ghost use Rattle.std.specs.Prelude.{◌≡◌, [], ◌∷◌};
+ghost use Rattle.dn_model.specs.Keys.{fin, rounds, tie};
 
 /// The finish of SplitMix64: it mixes the bits of a number.
 #[tactic(auto, unfolding(crate::specs::Keys::fin, crate::specs::Keys::fin_step))]
@@ -22,8 +22,20 @@ pub fn tie(seed: u64, group: u32, sum: u32, origin: u16, seq: u64) -> u64
     if seed == 0 {
         return 0;
     }
-    let first = fin(seed.wrapping_add(0x9E37_79B9_7F4A_7C15).wrapping_add(u64::from(group)));
-    let second = fin(first.wrapping_add(0x9E37_79B9_7F4A_7C15).wrapping_add(u64::from(sum)));
-    let third = fin(second.wrapping_add(0x9E37_79B9_7F4A_7C15).wrapping_add(u64::from(origin)));
-    fin(third.wrapping_add(0x9E37_79B9_7F4A_7C15).wrapping_add(seq))
+    let of_group = round(seed, u64::from(group));
+    let of_sum = round(of_group, u64::from(sum));
+    let of_origin = round(of_sum, u64::from(origin));
+    round(of_origin, seq)
+}
+
+/// One round of SplitMix64 over a number.
+#[tactic(auto, unfolding(crate::specs::Keys::rounds))]
+fn round(before: u64, number: u64) -> u64
+    ensures { result ≡ rounds before (number ∷ []) }
+{
+    fin(
+        before
+            .wrapping_add(0x9E37_79B9_7F4A_7C15)
+            .wrapping_add(number),
+    )
 }

@@ -1,4 +1,4 @@
-use Rattle.std.proofs.Common.{◌≤◌, take, List, ℕ}
+use Rattle.std.proofs.Common.{◌≤◌, take}
 use Rattle.std.specs.List.{flat_map}
 use Rattle.dn_io.specs.Streams.{PutsOrKeeps}
 use Rattle.dn_io.proofs.tests.write_pieces.Given as goal

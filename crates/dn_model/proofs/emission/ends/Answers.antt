@@ -1,7 +1,5 @@
-use Rattle.std.proofs.Common.{rules, ◌≡◌, ◌≤◌, ℕ, List, length, Result, Ok, Err, IfOk, ap, arith}
-use Rattle.dn_model.specs.declared.link.Link.{Link}
-use Rattle.dn_model.specs.declared.link.End.{End}
-use Rattle.dn_model.specs.Links.{ends, ports_of}
+use Rattle.std.proofs.Common.{rules, ◌≤◌, ℕ, length, arith}
+use Rattle.dn_model.specs.Links.{ends}
 use Rattle.dn_model.specs.Cases.{Heading, IsHeading}
 use Rattle.dn_model.proofs.Ports.{ends_length, ports_few}
 use Rattle.dn_model.proofs.emission.ends.Goals as goal

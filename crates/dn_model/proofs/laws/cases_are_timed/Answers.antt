@@ -1,4 +1,4 @@
-use Rattle.std.proofs.Common.{◌≡◌, ℕ, ◌<◌, List, length, sym, subst}
+use Rattle.std.proofs.Common.{◌<◌, length, sym, subst}
 use Rattle.std.specs.List.{AllByRecursion}
 use Rattle.dn_model.specs.Cases.{Heading}
 use Rattle.dn_model.specs.Network.{routers}
