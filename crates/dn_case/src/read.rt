@@ -1,6 +1,6 @@
 //! Reading a case.
 
-ghost use Rattle.std.specs.Prelude.{◌≡◌, IfOk};
+ghost use Rattle.std.specs.Prelude.{◌≡◌, ◌≤◌, length, IfOk};
 ghost use Rattle.dn_model.specs.Cases.{IsRecording};
 ghost use Rattle.dn_text.specs.Lines.{lines};
 ghost use Rattle.dn_case.specs.Standings.{start};
@@ -17,6 +17,7 @@ use std::alloc::Global;
 pub fn read_case(alloc: Global, text: &[u8]) -> Result<(Case, u64), CaseError>
     // A front of the text, of that length, is a case text of that case.
     ensures found { IfOk result (λ x. IsCaseFront text.now x.0 x.1) }
+    ensures within { IfOk result (λ x. x.1 ≤ length text.now) }
     // The fault is at the first bad line, with its cause.
     ensures fault { OnFault result (λ f. IsFirstBad (lines text.now) f.line f.cause) }
     // There is a fault only where no front of the text is a case text.
@@ -30,7 +31,8 @@ pub fn read_case(alloc: Global, text: &[u8]) -> Result<(Case, u64), CaseError>
 
 /// What stands where the case ends, and how many bytes it has.
 fn standing_of(alloc: Global, text: &[u8]) -> Result<(Standing, usize), CaseError>
-    ensures { Gives (λ x. x) result (reads start 1 0 (lines text.now)) }
+    ensures reading { Gives (λ x. x) result (reads start 1 0 (lines text.now)) }
+    ensures within { IfOk result (λ x. x.1 ≤ length text.now) }
 {
     let mut standing = Standing::new(alloc);
     let mut number: u64 = 1;
