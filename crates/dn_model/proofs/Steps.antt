@@ -45,7 +45,7 @@ unfolding message_with
 with_inside n s end d None = tt
 with_inside n s end d (Some k) = d
 
-emitted_inside : (n : ℕ) (h : Heading) → AllByRecursion (λ l. (l.a < n) × (l.b < n)) h.links → (cause : Event) (sents : List Sent) → AllByRecursion (λ e. e.router < n) (emitted h cause sents)
+pub emitted_inside : (n : ℕ) (h : Heading) → AllByRecursion (λ l. (l.a < n) × (l.b < n)) h.links → (cause : Event) (sents : List Sent) → AllByRecursion (λ e. e.router < n) (emitted h cause sents)
 unfolding emitted emitted_by message_at
 emitted_inside n h w cause sents =
     all_filter_map (λ s. message_at (timing_of h) cause s (slice_get (ends h.links cause.router) s.port)) (λ e. e.router < n) sents
@@ -76,18 +76,18 @@ module _ {S : Type 0} (net : Network S) where
       ap (λ l. emitted net.header x (node_sent net.guests node x.input) ++ l) (sent_from_append (node_after net.guests node x.input) xs ys)
       ∙ sym (append_assoc (emitted net.header x (node_sent net.guests node x.input)) (sent_from net (node_after net.guests node x.input) xs) _)
 
-  sent_more : (r : ℕ) (xs : List Event) (e : Event) → sent net r (xs ++ e ∷ []) ≡ sent net r xs ++ emitted net.header e (node_sent net.guests (state net r xs) e.input)
+  pub sent_more : (r : ℕ) (xs : List Event) (e : Event) → sent net r (xs ++ e ∷ []) ≡ sent net r xs ++ emitted net.header e (node_sent net.guests (state net r xs) e.input)
   unfolding sent state sent_from
   sent_more r xs e =
       sent_from_append (opening_node net r) xs (e ∷ [])
       ∙ ap (λ l. sent_from net (opening_node net r) xs ++ l) (append-nil (emitted net.header e (node_sent net.guests (state_from net (opening_node net r) xs) e.input)))
 
-  at_own : (es : List Event) (e : Event) → by_router (es ++ e ∷ []) e.router ≡ by_router es e.router ++ e ∷ []
+  pub at_own : (es : List Event) (e : Event) → by_router (es ++ e ∷ []) e.router ≡ by_router es e.router ++ e ∷ []
   unfolding is_at
   at_own es e =
       filter_append (is_at e.router) es (e ∷ []) ∙ ap (λ l. by_router es e.router ++ l) (filter_all (is_at e.router) (e ∷ []) (eq-eqb e.router e.router refl, tt))
 
-  at_other : (es : List Event) (e : Event) (r : ℕ) → (e.router ≡ r → ⊥) → by_router (es ++ e ∷ []) r ≡ by_router es r
+  pub at_other : (es : List Event) (e : Event) (r : ℕ) → (e.router ≡ r → ⊥) → by_router (es ++ e ∷ []) r ≡ by_router es r
   unfolding is_at
   at_other es e r h =
       filter_append (is_at r) es (e ∷ [])
@@ -213,7 +213,7 @@ module _ {S : Type 0} (net : Network S) where
   joined_none zero f h = refl
   joined_none (suc n) f h = λ i. joined_none n f h i ++ h n i
 
-  joined_one : (n : ℕ) (f : Family) (r : ℕ) → r < n → ((s : ℕ) → (s ≡ r → ⊥) → f s ≡ []) → joined n f ≡ f r
+  pub joined_one : (n : ℕ) (f : Family) (r : ℕ) → r < n → ((s : ℕ) → (s ≡ r → ⊥) → f s ≡ []) → joined n f ≡ f r
   unfolding joined
   joined_one zero f r l h = absurd (omega arith)
   joined_one (suc n) f r l h =
@@ -229,12 +229,12 @@ module _ {S : Type 0} (net : Network S) where
       joined_empty zero f r l h = refl
       joined_empty (suc n) f r l h = λ i. joined_empty n f r (omega arith) h i ++ h n (λ x. omega (arith, l, x)) i
 
-  ticks_at : (n r : ℕ) → AllByRecursion (λ e. e.router ≡ r) (ticks n r)
+  pub ticks_at : (n r : ℕ) → AllByRecursion (λ e. e.router ≡ r) (ticks n r)
   unfolding ticks
   ticks_at zero r = tt
   ticks_at (suc n) r = all_append (λ e. e.router ≡ r) (ticks n r) (tick n r ∷ []) (ticks_at n r) (refl, tt)
 
-  injected_at : (n : ℕ) (feed : List External) (r : ℕ) → AllByRecursion (λ e. e.router ≡ r) (injected n feed r)
+  pub injected_at : (n : ℕ) (feed : List External) (r : ℕ) → AllByRecursion (λ e. e.router ≡ r) (injected n feed r)
   unfolding injected is_at
   injected_at n feed r =
       all_append (λ e. e.router ≡ r) (ticks n r) (filter (is_at r) (externals 0 feed)) (ticks_at n r)

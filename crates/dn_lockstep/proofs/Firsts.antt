@@ -1,0 +1,34 @@
+-- The least of some events, and the top of a heap in the reversed order.
+use Rattle.std.proofs.Common.{◌≡◌, ◌<◌, true, false, List, [], ◌∷◌, length, get_or, sym, ◌∙◌, ap, subst, arith, map}
+use Rattle.std.specs.List.{AllByRecursion}
+use Rattle.std.specs.List.Sorted.{IsPermutation}
+use Rattle.std.proofs.lemmas.List.Sorted.{IsPermutation-refl, IsPermutation-map}
+use Rattle.std.specs.BinaryHeap.{IsUpperBound}
+use Rattle.dn_model.specs.declared.event.Event.{Event}
+use Rattle.dn_model.specs.Order.{event_cmp, event_total}
+use Rattle.dn_lists.proofs.Sorting.{turn, count, count_permutation}
+use Rattle.dn_lockstep.specs.declared.queue.Queued.{Queued}
+use Rattle.dn_lockstep.specs.Least.{IsUpTo, IsLeast}
+use Rattle.dn_lockstep.specs.Queues.{later_cmp, queued_events}
+
+pub first_from_bound : (top : Queued) (items : List Queued) → IsUpperBound later_cmp top items → IsUpTo top.event (queued_events items)
+first_from_bound top [] b = tt
+first_from_bound top (x ∷ xs) b = (turn event_cmp event_total x.event top.event ∙ b.0, first_from_bound top xs b.1)
+
+pub least_at_top : (items : List Queued) (top : Queued) → 0 < length items → top ≡ get_or items 0 top → IsUpperBound later_cmp top items → IsLeast top.event (queued_events items)
+least_at_top [] top l e b = absurd (omega arith)
+least_at_top (x ∷ xs) top l e b = record {
+  rest = queued_events xs;
+  among = subst (λ (z : Queued). IsPermutation (queued_events (x ∷ xs)) (z.event ∷ queued_events xs)) (sym e) (IsPermutation-refl (queued_events (x ∷ xs)));
+  first = first_from_bound top xs b.1;
+}
+
+pub moved_events : (xs ys : List Queued) → IsPermutation xs ys → IsPermutation (queued_events xs) (queued_events ys)
+moved_events xs ys h = IsPermutation-map (λ q. q.event) xs ys h
+
+-- where there is a least event, some event waits
+pub least_waits : (e : Event) (events : List Event) → IsLeast e events → events ≡ [] → ⊥
+least_waits e events least none =
+    let a = count_permutation (λ w. true) events (e ∷ least.rest) least.among in
+    let b : count (λ w. true) events ≡ 0 = ap (count (λ w. true)) none in
+    omega (arith, a, b)

@@ -1,0 +1,9 @@
+pub mod Options
+pub mod Firsts
+pub mod Groups
+pub mod Queueing
+pub mod Wired
+pub mod Places
+pub mod Handling
+pub mod Onward
+pub mod Start

@@ -1,0 +1,96 @@
+use Rattle.std.proofs.Common.{◌≡◌, ℕ, ◌+◌, ◌<◌, ◌≤◌, Bool, true, false, not, Some, List, [], ◌++◌, length, take, drop, refl, sym, ap, ◌∙◌, subst, arith}
+use Rattle.std.specs.Prelude.{is_some}
+use Rattle.dn_guest.specs.declared.node.Node.{Node}
+use Rattle.dn_model.specs.declared.event.Event.{Event}
+use Rattle.dn_model.specs.Settled.{rows, row_limit}
+use Rattle.dn_lockstep.specs.Agendas.{waiting_in, IsFronted}
+use Rattle.dn_lockstep.specs.Least.{IsLeast}
+use Rattle.dn_lockstep.specs.Running.{Running, StandsIn}
+use Rattle.dn_lockstep.specs.Steps.{IsHandled}
+use Rattle.dn_lockstep.specs.Answers.{answer_after}
+use Rattle.dn_lockstep.proofs.Options.{at_none, at_some}
+use Rattle.dn_lockstep.proofs.Firsts.{least_waits}
+use Rattle.dn_lockstep.proofs.Places.{kept_items}
+use Rattle.dn_lockstep.proofs.Handling.{handled_inside}
+use Rattle.dn_lockstep.proofs.Onward.{place_at_end, at_end, more_rows, stands_on, answer_end, answer_cut, answer_row}
+use Rattle.dn_lockstep.proofs.engine.Engine.next.Goals as goal
+
+pub returns-then-is_none-clause-answer : goal.returns-then-is_none-clause-answer
+returns-then-is_none-clause-answer g c =
+    λ net feed are so.
+    let nothing : is_some c.peek.result ≡ false = c.is_none.ensures ∙ ap not c.if-is_none.true in
+    let none = at_none c.peek.result (IsFronted c.self.inside.agenda → waiting_in c.self.inside.agenda ≡ []) nothing c.peek.ensures.none (c.self.invariant.fronted c.if-self.false) in
+    answer_end c.args.self.now.place (rows net feed) (place_at_end net feed c.args.self.now so (ap (λ (r : Running g.row.G.Denot). r.waiting) (sym c.self.view_is) ∙ none))
+
+pub returns-then-is_none-clause-moved : goal.returns-then-is_none-clause-moved
+returns-then-is_none-clause-moved g c =
+    λ net feed are so.
+    let nothing : is_some c.peek.result ≡ false = c.is_none.ensures ∙ ap not c.if-is_none.true in
+    let none = at_none c.peek.result (IsFronted c.self.inside.agenda → waiting_in c.self.inside.agenda ≡ []) nothing c.peek.ensures.none (c.self.invariant.fronted c.if-self.false) in
+    (refl, at_end net feed c.args.self.now so (ap (λ (r : Running g.row.G.Denot). r.waiting) (sym c.self.view_is) ∙ none))
+
+pub returns-then-self-row_limit-clause-answer : goal.returns-then-self-row_limit-clause-answer
+returns-then-self-row_limit-clause-answer g c =
+    λ net feed are so.
+    let some : is_some c.peek.result ≡ true = c.is_none.ensures ∙ ap not c.if-is_none.false in
+    let fronted = c.self.invariant.fronted c.if-self.false in
+    let same : waiting_in c.self.inside.agenda ≡ c.args.self.now.waiting = ap (λ (r : Running g.row.G.Denot). r.waiting) c.self.view_is in
+    let more : c.args.self.now.place < length (rows net feed) =
+    at_some c.peek.result (λ x. IsFronted c.self.inside.agenda → IsLeast x.now (waiting_in c.self.inside.agenda)) (c.args.self.now.place < length (rows net feed)) some c.peek.ensures.least
+    (λ x least. more_rows net feed c.args.self.now so x.now (subst (IsLeast x.now) same (least fronted))) in
+    answer_cut c.args.self.now.place (rows net feed) more (ap (λ (r : Running g.row.G.Denot). r.place) (sym c.self.view_is) ∙ c.if-self-row_limit.true ∙ c.row_limit.ensures)
+
+pub handle_least-requires-clause-more : goal.handle_least-requires-clause-more
+handle_least-requires-clause-more g c =
+    λ κs within.
+    let some : is_some c.peek.result ≡ true = c.is_none.ensures ∙ ap not c.if-is_none.false in
+    let fronted = c.self.invariant.fronted c.if-self.false in
+    at_some c.peek.result (λ x. IsFronted c.self.inside.agenda → IsLeast x.now (waiting_in c.self.inside.agenda)) (waiting_in c.self.inside.agenda ≡ [] → ⊥) some c.peek.ensures.least
+    (λ x least. least_waits x.now (waiting_in c.self.inside.agenda) (least fronted))
+
+pub invariant_of-self : goal.invariant_of-self
+invariant_of-self g c =
+    let new = c.handle_least.new.nodes in
+    let old_len : length c.as_mut_slice.result.now ≡ length c.self.inside.nodes.items = ap length c.as_mut_slice.ensures.value in
+    let len : c.self.inside.nodes.len ≡ length new = omega (arith, old_len, c.handle_least.auto.nodes, c.self.inside.nodes.ok) in
+    let same : take c.self.inside.nodes.len (new ++ drop (length new) c.self.inside.nodes.items) ≡ new = kept_items c.self.inside.nodes.len new c.self.inside.nodes.items len in
+    let count : length (take c.self.inside.nodes.len (new ++ drop (length new) c.self.inside.nodes.items)) ≡ length new = ap length same in
+    record {
+      rules = c.self.invariant.rules;
+      wired = c.self.invariant.wired;
+      one_each = omega (arith, count, old_len, c.handle_least.auto.nodes, c.self.invariant.one_each);
+      within = omega (arith, c.self.invariant.within, c.row_limit.ensures, c.if-self-row_limit.false);
+      inside = λ unspent.
+          handled_inside g.G.Guest.meaning c.self.inside.header c.as_mut_slice.result.now c.self.invariant.rules (waiting_in c.self.inside.agenda) (waiting_in c.handle_least.new.agenda) c.in-Ok.event new (c.self.invariant.inside unspent) c.in-Ok.ensures.handled;
+      fronted = λ unspent. c.in-Ok.ensures.fronted;
+    }
+
+pub returns-in-Ok-clause-answer : goal.returns-in-Ok-clause-answer
+returns-in-Ok-clause-answer g c =
+    λ net feed are so.
+    let some : is_some c.peek.result ≡ true = c.is_none.ensures ∙ ap not c.if-is_none.false in
+    let fronted = c.self.invariant.fronted c.if-self.false in
+    let same : waiting_in c.self.inside.agenda ≡ c.args.self.now.waiting = ap (λ (r : Running g.row.G.Denot). r.waiting) c.self.view_is in
+    let more : c.args.self.now.place < length (rows net feed) =
+    at_some c.peek.result (λ x. IsFronted c.self.inside.agenda → IsLeast x.now (waiting_in c.self.inside.agenda)) (c.args.self.now.place < length (rows net feed)) some c.peek.ensures.least
+    (λ x least. more_rows net feed c.args.self.now so x.now (subst (IsLeast x.now) same (least fronted))) in
+    answer_row c.args.self.now.place (rows net feed) more (λ at. c.if-self-row_limit.false (ap (λ (r : Running g.row.G.Denot). r.place) c.self.view_is ∙ at ∙ sym c.row_limit.ensures))
+
+pub returns-in-Ok-clause-moved : goal.returns-in-Ok-clause-moved
+returns-in-Ok-clause-moved g c =
+    λ net feed are so.
+    let new = c.handle_least.new.nodes in
+    let event = c.in-Ok.event in
+    let waits = waiting_in c.handle_least.new.agenda in
+    let before : Running g.row.G.Denot = record { header = c.self.inside.header; nodes = c.self.inside.nodes.items; waiting = waiting_in c.self.inside.agenda; place = c.self.inside.place; last = c.self.inside.last; spent = c.self.inside.spent } in
+    let stood : StandsIn net feed before = subst (StandsIn net feed) (sym c.self.view_is) so in
+    let handled : IsHandled g.G.Guest.meaning c.self.inside.header c.self.inside.nodes.items (waiting_in c.self.inside.agenda) event new waits =
+    subst (λ (ns : List (Node g.row.G.Denot)). IsHandled g.G.Guest.meaning c.self.inside.header ns (waiting_in c.self.inside.agenda) event new waits) c.as_mut_slice.ensures.value c.in-Ok.ensures.handled in
+    let old_len : length c.as_mut_slice.result.now ≡ length c.self.inside.nodes.items = ap length c.as_mut_slice.ensures.value in
+    let len : c.self.inside.nodes.len ≡ length new = omega (arith, old_len, c.handle_least.auto.nodes, c.self.inside.nodes.ok) in
+    let same : take c.self.inside.nodes.len (new ++ drop (length new) c.self.inside.nodes.items) ≡ new = kept_items c.self.inside.nodes.len new c.self.inside.nodes.items len in
+    let on = stands_on net feed before stood g.G.Guest.meaning are event new waits handled in (
+      subst (λ (ns : List (Node g.row.G.Denot)). StandsIn net feed (record { header = c.self.inside.header; nodes = ns; waiting = waits; place = c.self.inside.place + 1; last = Some event; spent = c.self.inside.spent })) (sym same)
+          (subst (λ (s : Bool). StandsIn net feed (record { header = c.self.inside.header; nodes = new; waiting = waits; place = c.self.inside.place + 1; last = Some event; spent = s })) (sym c.if-self.false) on),
+      ap (λ (r : Running g.row.G.Denot). r.place + 1) c.self.view_is,
+    )
