@@ -1,10 +1,10 @@
 //! The engine.
 
-ghost use Rattle.std.specs.Prelude.{◌≡◌, ◌<◌, ℕ, List, Some, true, length, slice_get, IfOk, IfErr, OnErr, IsErr, option_copied};
+ghost use Rattle.std.specs.Prelude.{◌≡◌, ◌+◌, ◌<◌, ◌≤◌, ℕ, List, Some, true, length, slice_get, IfOk, IfErr, OnErr, IsErr, option_copied};
 ghost use Rattle.std.specs.List.Sorted.{IsPermutation, IsSorted};
 ghost use Rattle.dn_model.specs.declared.feed.External.{External};
 ghost use Rattle.dn_model.specs.Network.{Network, routers, sent_to, state};
-ghost use Rattle.dn_model.specs.Settled.{rows};
+ghost use Rattle.dn_model.specs.Settled.{row_limit, rows};
 ghost use Rattle.dn_model.specs.SoFar.{by_router};
 ghost use Rattle.dn_lockstep.specs.Running.{Running, StandsIn, first_rows, messages};
 ghost use Rattle.dn_lockstep.specs.Answers.{answer_after, HasMoved};
@@ -82,6 +82,7 @@ impl<G: Guest> Engine<G> {
         ensures moved { (net : Network G) (feed : List External) → net.guests ≡ G.meaning → StandsIn net feed self.old → IfOk result (λ answer. HasMoved net feed self.old answer self.new) }
         ensures spent { OnErr result (self.new.spent ≡ true) }
         ensures stays_spent { self.old.spent ≡ true → IsErr result }
+        ensures onward { IfOk result (λ answer. answer ≡ Next.Row → (self.old.place < row_limit) × (self.new.place ≡ self.old.place + 1)) }
         ensures header { self.new.header ≡ self.old.header }
     {
         if self.spent {
@@ -128,7 +129,8 @@ impl<G: Guest> Engine<G> {
 
     /// How many rows were handled.
     pub fn place(&self) -> u64
-        ensures { result ≡ self.now.place }
+        ensures place { result ≡ self.now.place }
+        ensures within { result ≤ row_limit }
     {
         self.place
     }
