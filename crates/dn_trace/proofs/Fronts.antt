@@ -1,20 +1,40 @@
 -- What a sink holds of a text that is gathered and handed over in parts.
-use Rattle.std.proofs.Common.{◌≡◌, ℕ, List, ◌++◌, take, drop, Option, refl, sym, ap, ◌∙◌, subst, append_assoc}
+use Rattle.std.proofs.Common.{◌≡◌, ℕ, ◌+◌, ◌≤◌, List, [], ◌++◌, length, take, drop, Option, refl, sym, ap, ◌∙◌, subst, append_assoc, arith}
 use Rattle.std.specs.List.{flat_map}
-use Rattle.std.proofs.lemmas.List.{take-append-drop}
+use Rattle.std.proofs.lemmas.List.{take-append-drop, length-append, length-drop}
 use Rattle.std.proofs.lemmas.Grind.{flat_map-append}
 use Rattle.dn_io.specs.Streams.{behind, PutsFront, PutsOrKeeps}
-use Rattle.dn_io.proofs.StreamLaws.{PutsFront-longer, PutsOrKeeps-split, PutsOrKeeps-flush, PutsOrKeeps-front}
+use Rattle.dn_io.proofs.StreamLaws.{behind-behind, PutsFront-longer, PutsOrKeeps-flush, PutsOrKeeps-front}
 use Rattle.dn_model.specs.declared.router.RouterDef.{RouterDef}
 use Rattle.dn_model.specs.declared.event.Event.{Event}
 use Rattle.dn_trace.specs.Rows.{row_line, row_lines}
 
+-- a front that was put, and the rest
+split_at : (told : Option (List ℕ)) (text : List ℕ) (n : ℕ) → PutsOrKeeps told (behind told (take n text)) (drop n text) text
+split_at told text n = record {
+    whole = behind-behind told (take n text) (drop n text) ∙ ap (behind told) (take-append-drop n text);
+    rest = simp length-drop (omega arith);
+  }
+
 -- a front of what was kept is a front of the whole text
 pub front_of_kept : (old then now : Option (List ℕ)) (kept text : List ℕ) → PutsOrKeeps old then kept text → PutsFront then now kept → PutsFront old now text
-front_of_kept old then now kept text first (n, within, put) =
+front_of_kept old then now kept text first front =
+    let n = front.count in
     let P : Option (List ℕ) → Type 0 = λ told. PutsOrKeeps then told (drop n kept) kept in
-    let split : PutsOrKeeps then now (drop n kept) kept = subst P (sym put) (PutsOrKeeps-split then kept n) in
-    PutsOrKeeps-front old now (drop n kept) text (PutsOrKeeps-flush old then now kept (drop n kept) text first split)
+    let split : PutsOrKeeps then now (drop n kept) kept = subst P (sym front.put) (split_at then kept n) in
+    let whole : PutsOrKeeps old now (drop n kept) text = PutsOrKeeps-flush first split in
+    PutsOrKeeps-front whole
+
+-- the same text behind what is kept and behind the whole
+pub kept_more : (old now : Option (List ℕ)) (kept text more : List ℕ) → PutsOrKeeps old now kept text → PutsOrKeeps old now (kept ++ more) (text ++ more)
+kept_more old now kept text more it = record {
+    whole = sym (behind-behind now kept more) ∙ ap (λ (told : Option (List ℕ)). behind told more) it.whole ∙ behind-behind old text more;
+    rest = omega (arith, length-append kept more, length-append text more, it.rest);
+  }
+
+-- nothing was put, and all is to come
+pub all_to_come : (told : Option (List ℕ)) (text : List ℕ) → PutsOrKeeps told told text text
+all_to_come told text = record { whole = refl; rest = omega arith }
 
 -- the lines of some rows, and of the others
 row_lines_split : (routers : List RouterDef) (rows : List Event) (i : ℕ) → row_lines routers (take i rows) ++ row_lines routers (drop i rows) ≡ row_lines routers rows
@@ -24,9 +44,11 @@ row_lines_split routers rows i = sym (flat_map-append (row_line routers) (take i
 pub front_of_rows : (old then now : Option (List ℕ)) (kept before : List ℕ) (routers : List RouterDef) (rows : List Event) (i : ℕ) → PutsOrKeeps old then kept (before ++ row_lines routers (take i rows)) → PutsFront then now kept → PutsFront old now (before ++ row_lines routers rows)
 front_of_rows old then now kept before routers rows i first front =
     let whole : (before ++ row_lines routers (take i rows)) ++ row_lines routers (drop i rows) ≡ before ++ row_lines routers rows = append_assoc before (row_lines routers (take i rows)) (row_lines routers (drop i rows)) ∙ ap (λ (l : List ℕ). before ++ l) (row_lines_split routers rows i) in
-    subst (PutsFront old now) whole (PutsFront-longer old now (before ++ row_lines routers (take i rows)) (row_lines routers (drop i rows)) (front_of_kept old then now kept (before ++ row_lines routers (take i rows)) first front))
+    let longer : PutsFront old now ((before ++ row_lines routers (take i rows)) ++ row_lines routers (drop i rows)) = PutsFront-longer (row_lines routers (drop i rows)) (front_of_kept old then now kept (before ++ row_lines routers (take i rows)) first front) in
+    subst (PutsFront old now) whole longer
 
 -- what was gathered so far, with nothing more written
 pub front_so_far : (old then now : Option (List ℕ)) (kept left before : List ℕ) (routers : List RouterDef) (rows : List Event) (i : ℕ) → PutsOrKeeps old then kept (before ++ row_lines routers (take i rows)) → PutsOrKeeps then now left kept → PutsFront old now (before ++ row_lines routers rows)
 front_so_far old then now kept left before routers rows i first second =
-    front_of_rows old then now kept before routers rows i first (PutsOrKeeps-front then now left kept second)
+    let front : PutsFront then now kept = PutsOrKeeps-front second in
+    front_of_rows old then now kept before routers rows i first front

@@ -8,8 +8,8 @@ use Rattle.dn_model.specs.Settled.{shown_rows, row_limit, is_cut}
 use Rattle.dn_lockstep.specs.Running.{Running, StandsIn}
 use Rattle.dn_trace.specs.declared.stream.Ending.{Ending}
 use Rattle.dn_trace.specs.declared.stream.Ending.TheVariants as ending
-use Rattle.dn_trace.specs.declared.check.Checked.{Checked}
-use Rattle.dn_trace.specs.declared.check.Checked.TheVariants as checked
+use Rattle.dn_trace.specs.declared.compare.Checked.{Checked}
+use Rattle.dn_trace.specs.declared.compare.Checked.TheVariants as checked
 use Rattle.dn_trace.specs.declared.stream.Stage.{Stage}
 use Rattle.dn_trace.specs.declared.stream.Stage.TheVariants as stage
 use Rattle.dn_guest.specs.declared.node.Node.{Node}
@@ -20,9 +20,9 @@ use Rattle.dn_trace.specs.Trace.{end_text}
 
 -- the network has this header, and these guests of this meaning at its routers
 pub record IsRunOf {S : Type 0} (net : Network S) (guest : Meaning S) (header : Heading) (guests : List S) : Type 0 where
-  pub header : net.header ≡ header
-  pub meaning : net.guests ≡ guest
-  pub opening : (r : ℕ) → r < routers net → slice_get guests r ≡ Some (net.opening r)
+  pub of_header : net.header ≡ header
+  pub of_guest : net.guests ≡ guest
+  pub openings : (r : ℕ) → r < routers net → slice_get guests r ≡ Some (net.opening r)
 
 -- the rows behind the first n, and the end
 abbrev pub rows_to_come : {S : Type 0} → Network S → List External → ℕ → List ℕ
@@ -49,17 +49,17 @@ steps_left (stage.Ended e) place = 0
 
 -- the line of the row handled last
 abbrev pub line_of_last : List RouterDef → Option Event → List ℕ
-line_of_last routers None = []
-line_of_last routers (Some row) = row_line routers row
+line_of_last defs None = []
+line_of_last defs (Some row) = row_line defs row
 
 -- the state lines of the first n nodes of a list
 abbrev pub state_line_of : {S : Type 0} → Meaning S → List RouterDef → ℕ → Option (Node S) → List ℕ
-state_line_of guest routers r None = []
-state_line_of guest routers r (Some node) = state_line guest routers r node
+state_line_of guest defs r None = []
+state_line_of guest defs r (Some node) = state_line guest defs r node
 
 unfoldable pub node_lines : {S : Type 0} → Meaning S → List RouterDef → List (Node S) → ℕ → List ℕ
-node_lines guest routers nodes zero = []
-node_lines guest routers nodes (suc n) = node_lines guest routers nodes n ++ state_line_of guest routers n (slice_get nodes n)
+node_lines guest defs nodes zero = []
+node_lines guest defs nodes (suc n) = node_lines guest defs nodes n ++ state_line_of guest defs n (slice_get nodes n)
 
 -- how a trace ended, where it has
 abbrev pub ended_of : Stage → Option Ending

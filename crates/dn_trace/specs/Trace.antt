@@ -11,8 +11,8 @@ use Rattle.dn_trace.specs.Rows.{row_lines, state_line, last_field}
 
 -- the state lines of the first n routers, in order
 unfoldable pub state_lines : {S : Type 0} → Meaning S → List RouterDef → (ℕ → Node S) → ℕ → List ℕ
-state_lines guests routers node zero = []
-state_lines guests routers node (suc n) = state_lines guests routers node n ++ state_line guests routers n (node n)
+state_lines guest defs node zero = []
+state_lines guest defs node (suc n) = state_lines guest defs node n ++ state_line guest defs n (node n)
 
 -- `end trace N`, with the number of rows
 unfoldable pub end_line : ℕ → List ℕ

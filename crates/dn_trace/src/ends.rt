@@ -29,6 +29,7 @@ pub(crate) fn push_last<G: Guest>(
 }
 
 /// Appends the line of each router's state.
+#[tactic(auto, using(crate::proofs::Streams::node_lines_more), unfolding(crate::specs::Streaming::node_lines))]
 fn push_states<G: Guest>(
     alloc: Global,
     engine: &Engine<G>,
@@ -68,18 +69,20 @@ pub(crate) fn push_cut_line(out: &mut Bytes) -> Result<(), NoMemory>
     Ok(())
 }
 
-/// Appends the states and the number of rows.
+/// Appends the states and the number of rows, where all rows were handled.
 pub(crate) fn push_last_lines<G: Guest>(
     alloc: Global,
     engine: &Engine<G>,
+    rows: u64,
     routers: &[RouterDef],
     out: &mut Bytes,
 ) -> Result<(), NoMemory>
+    requires rows { rows ≡ engine.now.place }
     requires same { engine.now.header.routers ≡ routers.now }
     requires few { length routers.now ≤ 64 }
     ensures { (net : Network G) (feed : List External) → net.guests ≡ G.meaning → net.header ≡ engine.now.header → IsAtEnd net feed engine.now → OnOk result (out.new ≡ out.old ++ last_lines net feed) }
 {
     push_states(alloc, engine, routers, out)?;
-    push_end_line(engine.place(), out)?;
+    push_end_line(rows, out)?;
     Ok(())
 }

@@ -1,7 +1,7 @@
 //! The trace: the text of a run's rows and last states.
 #![tactic(auto)]
 
-mod check;
+mod compare;
 mod ends;
 mod lockstep;
 mod rows;
@@ -9,7 +9,7 @@ mod stream;
 mod write;
 mod writer;
 
-pub use check::{Checked, check};
+pub use compare::{Checked, check};
 pub use lockstep::write_trace;
 pub use rows::{push_row, push_state};
 pub use stream::Ending;

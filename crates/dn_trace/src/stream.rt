@@ -90,6 +90,7 @@ impl<G: Guest> TraceText<G> {
     }
 
     /// Handles the next row and appends its line; or appends how the trace ends.
+    #[tactic(auto, unfolding(crate::specs::Streaming::to_come))]
     fn push_row(
         &mut self,
         alloc: Global,
@@ -106,9 +107,13 @@ impl<G: Guest> TraceText<G> {
         ensures header { self.new.engine.header ≡ self.old.engine.header }
     {
         match self.engine.next(alloc)? {
-            Next::Row => push_last(&self.engine, routers, out),
+            Next::Row => {
+                push_last(&self.engine, routers, out)?;
+                Ok(())
+            }
             Next::End => {
-                push_last_lines(alloc, &self.engine, routers, out)?;
+                let rows = self.engine.place();
+                push_last_lines(alloc, &self.engine, rows, routers, out)?;
                 self.stage = Stage::Ended(Ending::Whole);
                 Ok(())
             }
