@@ -1,3 +1,4 @@
 pub mod Fronts
 pub mod ToCome
 pub mod Streams
+pub mod Whole

@@ -1,6 +1,6 @@
 //! Comparing a text with the trace of a lockstep run.
 
-ghost use Rattle.std.specs.Prelude.{◌≡◌, ◌≢◌, ◌<◌, ◌≤◌, ℕ, true, false, length, take, slice_get, Ok};
+ghost use Rattle.std.specs.Prelude.{◌≡◌, ◌≢◌, ◌<◌, ◌≤◌, ℕ, true, false, length, take, drop, slice_get, Ok};
 ghost use Rattle.dn_model.specs.Network.{Network};
 ghost use Rattle.dn_model.specs.Settled.{is_cut};
 ghost use Rattle.dn_trace.specs.Trace.{trace_text};
@@ -45,7 +45,8 @@ pub fn check<G: Guest>(
         }
         piece.clear();
         trace.push_next(alloc, routers, &mut piece)?;
-        let same = same_front(&section[at..], piece.as_slice());
+        let rest = behind(section, at);
+        let same = same_front(rest, piece.as_slice());
         if same < piece.len() {
             return Ok(Checked::Differs((at + same) as u64));
         }
@@ -64,6 +65,14 @@ fn end_of(section: &[u8], at: usize, ending: Ending) -> Checked
         Ending::Whole => Checked::Equal,
         Ending::Cut => Checked::Cut,
     }
+}
+
+/// What stands behind the first bytes.
+fn behind(section: &[u8], at: usize) -> &[u8]
+    requires { at ≤ length section.now }
+    ensures { result.now ≡ drop at section.now }
+{
+    &section[at..]
 }
 
 /// How many bytes at the front of both are the same.

@@ -41,8 +41,8 @@ pub fn write_trace<G: Guest, K: Sink>(
             return Ok(ending);
         }
         put_if_full(&mut text, sink)?;
-        if trace.push_next(alloc, routers, &mut text).is_err() {
+        let Ok(()) = trace.push_next(alloc, routers, &mut text) else {
             return Err(WriteError::NoMemory);
-        }
+        };
     }
 }
