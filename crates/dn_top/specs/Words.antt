@@ -17,3 +17,10 @@ unfoldable pub command_of : List (List ℕ) → Option Command
 command_of [] = None
 command_of (word ∷ []) = command_of_word word
 command_of (word ∷ other ∷ more) = None
+
+-- the commands that wait for nobody: all but `run`
+abbrev pub plain_of : Option Command → Option Command
+plain_of (Some command.Lockstep) = Some command.Lockstep
+plain_of (Some command.Check) = Some command.Check
+plain_of (Some command.Run) = None
+plain_of None = None

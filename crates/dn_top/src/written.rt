@@ -1,7 +1,6 @@
 //! Writing a case and the trace of its lockstep run.
 
-ghost use Rattle.std.specs.Prelude.{◌≡◌, ◌≤◌, true, false, [], IfOk, List, ℕ};
-ghost use Rattle.std.specs.List.{replicate};
+ghost use Rattle.std.specs.Prelude.{◌≡◌, ◌≤◌, true, false, [], replicate, IfOk};
 ghost use Rattle.dn_io.specs.Streams.{Rose, behind, PutsFront};
 ghost use Rattle.dn_top.specs.Promises.{written, is_cut_case, is_of_writing};
 
@@ -48,7 +47,7 @@ pub(crate) fn flooding_guests(alloc: Global, count: usize) -> Result<Vec<Flood>,
     ensures { IfOk result (λ guests. guests.items ≡ replicate count []) }
 {
     let mut guests = Vec::new(alloc);
-    for _ in 0..count {
+    'guests: while guests.len() < count {
         guests.push(Flood::new(alloc))?;
     }
     Ok(guests)

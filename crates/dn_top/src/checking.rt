@@ -52,10 +52,13 @@ fn compare(alloc: Global, input: &[u8], case: &Case, size: u64) -> Status
     let Ok(guests) = flooding_guests(alloc, case.header.routers.as_slice().len()) else {
         return Status::NoMemory;
     };
-    match check(alloc, case, guests, behind(input, size)) {
+    let section = behind(input, size);
+    match check(alloc, case, guests, section) {
         Ok(Checked::Equal) => Status::Ok,
         Ok(Checked::Cut) => Status::Cut,
-        Ok(Checked::Differs(place)) => Status::Differs(size + place),
+        Ok(Checked::Differs(place)) => {
+            Status::Differs((input.len() - section.len()) as u64 + place)
+        }
         Err(_) => Status::NoMemory,
     }
 }
