@@ -90,9 +90,10 @@ links_spellable rs before (l ∷ ls) named h =
 
 externals_spellable : (h : Heading) (low : ℕ) (xs : List ExternalDef) → IsHeading h → AreExternals h low xs → AllByRecursion IsSpellable (map (external_line h.routers) xs)
 externals_spellable h low [] k are = tt
-externals_spellable h low (x ∷ xs) k are =
-    (external_spellable (ports_of h.links x.router) x.group (name_at h.routers x.router) x.input (omega (arith, are.0.group, k.groups.1)) (name_again h.routers x.router k.routers are.0.router) (ports_few (length h.routers) x.router h.links k.links) are.0.asked,
-    externals_spellable h x.group xs k are.1)
+externals_spellable h low (x ∷ xs) k are = (
+  external_spellable (ports_of h.links x.router) x.group (name_at h.routers x.router) x.input (omega (arith, are.0.group, k.groups.1)) (name_again h.routers x.router k.routers are.0.router) (ports_few (length h.routers) x.router h.links k.links) are.0.asked,
+  externals_spellable h x.group xs k are.1,
+)
 
 header_spellable : (h : Heading) → IsHeading h → AllByRecursion IsSpellable (header_lines h)
 header_spellable h k =

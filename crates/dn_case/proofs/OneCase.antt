@@ -51,9 +51,9 @@ one_first_bad ls m n c d p q =
     elim (cases_lt m n) [
       | inl less ↦ absurd (not_before ls m n c d p q less)
       | inr le ↦ elim (cases_lt n m) [
-          | inl less ↦ absurd (not_before ls n m d c q p less)
-          | inr ge ↦ (
-              let same : m ≡ n = omega arith in
-              (same, one_place ls n c d (subst (λ (k : ℕ). IsFirstBad ls k c) same p) q))
-        ]
+        | inl less ↦ absurd (not_before ls n m d c q p less)
+        | inr ge ↦ (
+            let same : m ≡ n = omega arith in
+            (same, one_place ls n c d (subst (λ (k : ℕ). IsFirstBad ls k c) same p) q))
+      ]
     ]

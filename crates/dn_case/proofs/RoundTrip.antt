@@ -71,11 +71,19 @@ numbers_lead h k =
     let s3 = after s2 (Groups (Is h.groups)) in
     let period : first_of (table s1 (Period (Is h.period))) ≡ None = rw (is_between 1 1000000 h.period k.period.0 k.period.1) refl in
     let groups : first_of (table s2 (Groups (Is h.groups))) ≡ None = rw (is_between 1 4096 h.groups k.groups.0 k.groups.1) refl in
-    let seed : first_of (table s3 (Seed (Is h.seed))) ≡ None = rw (lt_true h.seed (2 ^ 64) k.seed) refl in
-    (s1, reads_on start (Version (Is 1)) (omega arith) refl refl,
-    (s2, reads_on s1 (Period (Is h.period)) (omega (arith, k.period.1)) refl period,
-    (s3, reads_on s2 (Groups (Is h.groups)) (omega (arith, k.groups.1)) refl groups,
-    (numbered_at h, reads_on s3 (Seed (Is h.seed)) k.seed refl seed, refl))))
+    let seed : first_of (table s3 (Seed (Is h.seed))) ≡ None = rw (lt_true h.seed (2 ^ 64) k.seed) refl in (
+      s1,
+      reads_on start (Version (Is 1)) (omega arith) refl refl,
+      (
+        s2,
+        reads_on s1 (Period (Is h.period)) (omega (arith, k.period.1)) refl period,
+        (
+          s3,
+          reads_on s2 (Groups (Is h.groups)) (omega (arith, k.groups.1)) refl groups,
+          (numbered_at h, reads_on s3 (Seed (Is h.seed)) k.seed refl seed, refl),
+        ),
+      ),
+    )
 
 -- ---- the routers
 
@@ -128,7 +136,7 @@ number_again rs i h inside =
     let none : position test (take i rs) ≡ None = early [] rs i h inside in
     let any = nowhere test (take i rs) none in
     let far : (k : ℕ) → k < i → test (get_or rs k nobody) ≡ false =
-      λ k less. sym (ap test (get_or-take i rs k nobody less)) ∙ any_none test (take i rs) k any (omega (arith, length-take i rs)) in
+    λ k less. sym (ap test (get_or-take i rs k nobody less)) ∙ any_none test (take i rs) k any (omega (arith, length-take i rs)) in
     let at : position_or_len test rs ≡ i = position_or_len_is test rs i nobody (omega arith) far (λ _. own (get_or rs i nobody).name) in
     rw (at, lt_true i (length rs) inside) refl
 
@@ -206,7 +214,7 @@ links_lead p s before (l ∷ links) m rs h few =
     let b = read_again s.routers l.b rs is.inside.1 in
     let read = reads_on (with_links p before s) (link_line s.routers l) (a.named, b.named, omega (arith, is.delay.1), omega (arith, is.cost.1)) m (link_free p s before l rs is short) in
     let on : Leads (with_links place.Link (before ++ l ∷ []) s) (map spelled (map (link_line s.routers) links)) (with_links place.Link (before ++ l ∷ links) s) =
-      subst (λ (x : List LinkDef). Leads (with_links place.Link (before ++ l ∷ []) s) (map spelled (map (link_line s.routers) links)) (with_links place.Link x s)) regrouped (at_link s (before ++ l ∷ []) links more) in
+    subst (λ (x : List LinkDef). Leads (with_links place.Link (before ++ l ∷ []) s) (map spelled (map (link_line s.routers) links)) (with_links place.Link x s)) regrouped (at_link s (before ++ l ∷ []) links more) in
     (with_links place.Link (before ++ l ∷ []) s, read ∙ ap (λ (t : Standing). Ok t) (link_is p s before l rs is), on)
 
 -- ---- a router has at most 16 ports
@@ -322,7 +330,7 @@ externals_lead p s before (x ∷ xs) m h are =
     let small : x.group < 2 ^ 64 = omega (arith, is.group, h.groups.1) in
     let read = reads_on (with_feed p before s) (external_line s.routers x) (external_spellable (ports_of s.links x.router) x.group (name_at s.routers x.router) x.input small named few is.asked) m (external_free p s before x h is) in
     let on : Leads (with_feed place.External (before ++ x ∷ []) s) (map spelled (map (external_line s.routers) xs)) (with_feed place.External (before ++ x ∷ xs) s) =
-      subst (λ (y : List ExternalDef). Leads (with_feed place.External (before ++ x ∷ []) s) (map spelled (map (external_line s.routers) xs)) (with_feed place.External y s)) regrouped (at_external s (before ++ x ∷ []) xs more) in
+    subst (λ (y : List ExternalDef). Leads (with_feed place.External (before ++ x ∷ []) s) (map spelled (map (external_line s.routers) xs)) (with_feed place.External y s)) regrouped (at_external s (before ++ x ∷ []) xs more) in
     (with_feed place.External (before ++ x ∷ []) s, read ∙ ap (λ (t : Standing). Ok t) (external_is p s before x h is), on)
 
 -- ---- the whole
@@ -351,9 +359,9 @@ header_leads c h =
     let links = links_lead place.Router routed [] k.links refl h.routers h.links h.few_links in
     let all = headed (behind_links place.Router k.links) c in
     let bare : map (link_line k.routers) k.links ++ flat_map prefix_lines k.routers ≡ map (link_line k.routers) k.links =
-      ap (λ (l : List Line). map (link_line k.routers) k.links ++ l) (no_prefixes [] k.routers h.routers) ∙ append-nil (map (link_line k.routers) k.links) in
+    ap (λ (l : List Line). map (link_line k.routers) k.links ++ l) (no_prefixes [] k.routers h.routers) ∙ append-nil (map (link_line k.routers) k.links) in
     let behind : Leads routed (map spelled (map (link_line k.routers) k.links ++ flat_map prefix_lines k.routers)) all =
-      subst (λ (l : List Line). Leads routed (map spelled l) all) (sym bare) links in
+    subst (λ (l : List Line). Leads routed (map spelled l) all) (sym bare) links in
     lines_join (number_lines k) _ start (numbered_at k) all numbers
     (lines_join (map router_line k.routers) _ (numbered_at k) routed all routers behind)
 

@@ -163,20 +163,23 @@ router_sound s name k open_ shape free =
     let r : RouterDef = record { name = name; kind = k; prefixes = [] } in
     let is : IsRouter s.routers r = record { named = shape.0; apart = unknown_is (number_of s.routers name) twice.0; kind = shape.1; prefixes = refl } in
     let small = is_below 64 (length s.routers) many.0 in
-    let long = length-append s.routers (r ∷ []) in
-    (record {
-      header = record {
-        period = open_.period;
-        groups = open_.groups;
-        seed = open_.seed;
-        some = omega arith;
-        few = omega arith;
-        routers = routers_more [] s.routers r open_.routers is;
-        few_links = few_none s.links open_.links;
-        links = no_links _ s.links open_.links;
-      };
-      feed = no_feed _ s.feed open_.feed;
-    }, open_.links, open_.feed)
+    let long = length-append s.routers (r ∷ []) in (
+      record {
+        header = record {
+          period = open_.period;
+          groups = open_.groups;
+          seed = open_.seed;
+          some = omega arith;
+          few = omega arith;
+          routers = routers_more [] s.routers r open_.routers is;
+          few_links = few_none s.links open_.links;
+          links = no_links _ s.links open_.links;
+        };
+        feed = no_feed _ s.feed open_.feed;
+      },
+      open_.links,
+      open_.feed,
+    )
 
 -- ---- a link
 
@@ -219,20 +222,22 @@ link_sound : (s : Standing) (a b : List ℕ) (delay cost : Number) → IsRecordi
 link_sound s a b delay cost h free =
     let l = link_at s a b delay cost in
     let new = new_link s a b delay cost free in
-    let long = length-append s.links (l ∷ []) in
-    (record {
-      header = record {
-        period = h.0.header.period;
-        groups = h.0.header.groups;
-        seed = h.0.header.seed;
-        some = h.0.header.some;
-        few = h.0.header.few;
-        routers = h.0.header.routers;
-        few_links = omega (arith, new.few);
-        links = links_more (length s.routers) [] s.links l h.0.header.links new.is;
-      };
-      feed = no_feed _ s.feed h.1;
-    }, h.1)
+    let long = length-append s.links (l ∷ []) in (
+      record {
+        header = record {
+          period = h.0.header.period;
+          groups = h.0.header.groups;
+          seed = h.0.header.seed;
+          some = h.0.header.some;
+          few = h.0.header.few;
+          routers = h.0.header.routers;
+          few_links = omega (arith, new.few);
+          links = links_more (length s.routers) [] s.links l h.0.header.links new.is;
+        };
+        feed = no_feed _ s.feed h.1;
+      },
+      h.1,
+    )
 
 -- ---- a prefix: none is taken while all routers flood
 

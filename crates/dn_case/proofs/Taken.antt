@@ -82,12 +82,12 @@ well_two word field l e =
     elim (chosen (is_word word (codes "defined")) _ _ l e) [
       | inl h ↦ well_number Version (λ n. tt) (numeral_of field) l h.1
       | inr e ↦ elim (chosen (is_word word (codes "period")) _ _ l e) [
-          | inl h ↦ well_number Period (λ n. tt) (numeral_of field) l h.1
-          | inr e ↦ elim (chosen (is_word word (codes "groups")) _ _ l e) [
-              | inl h ↦ well_number Groups (λ n. tt) (numeral_of field) l h.1
-              | inr e ↦ elim (chosen (is_word word (codes "seed")) _ _ l e) [ inl h ↦ well_number Seed (λ n. tt) (numeral_of field) l h.1 | inr e ↦ no_line l e ]
-            ]
+        | inl h ↦ well_number Period (λ n. tt) (numeral_of field) l h.1
+        | inr e ↦ elim (chosen (is_word word (codes "groups")) _ _ l e) [
+          | inl h ↦ well_number Groups (λ n. tt) (numeral_of field) l h.1
+          | inr e ↦ elim (chosen (is_word word (codes "seed")) _ _ l e) [ inl h ↦ well_number Seed (λ n. tt) (numeral_of field) l h.1 | inr e ↦ no_line l e ]
         ]
+      ]
     ]
 
 named : (text name : List ℕ) → name_of text ≡ Some name → is_name name ≡ true

@@ -257,4 +257,3 @@ start = record { place = place.Start; period = 0; groups = 0; seed = 0; routers 
 abbrev pub is_end : Place → Bool
 is_end place.End = true
 is_end _ = false
-

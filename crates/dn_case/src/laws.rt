@@ -10,20 +10,17 @@ ghost use Rattle.dn_case.specs.Reading.{IsCaseText, IsCaseFront, IsFirstBad};
 /// At most one front of a text is a case text, and it is the text of one case.
 pub fn a_text_has_one_case()
     ensures { (ls : List (List ℕ)) (j k : ℕ) (c d : Recording) → IsCaseText (take j ls) c → IsCaseText (take k ls) d → (take j ls ≡ take k ls) × (c ≡ d) }
-{
-}
+{}
 
 /// A text has at most one first bad line, with one cause.
 pub fn a_text_has_one_first_bad_line()
     ensures { (ls : List (List ℕ)) (m n : ℕ) (c d : Cause) → IsFirstBad ls m c → IsFirstBad ls n d → (m ≡ n) × (c ≡ d) }
-{
-}
+{}
 
 /// A line that is spelled is read as that line.
 pub fn a_spelled_line_is_read()
     ensures { (l : Line) → IsSpellable l → line_of (spelled l) ≡ Some l }
-{
-}
+{}
 
 /// The text of a case is read as that case, whatever follows it.
 pub fn a_written_case_is_read()
@@ -31,5 +28,4 @@ pub fn a_written_case_is_read()
     ensures lines { (c : Recording) → IsRecording c → IsCaseText (map spelled (lines_of c)) c }
     // Its text is a front of any text that begins with it.
     ensures front { (c : Recording) (rest : List ℕ) → IsRecording c → IsCaseFront (case_text c ++ rest) c (length (case_text c)) }
-{
-}
+{}

@@ -48,3 +48,6 @@ pub use laws::{
 pub use read::read_case;
 pub use trace_section::split_trace;
 pub use write::write_case;
+
+#[cfg(test)]
+mod tests;

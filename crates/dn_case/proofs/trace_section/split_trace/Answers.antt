@@ -12,7 +12,7 @@ lines-preserved c =
     let behind = c.first_line-in-lines.result.1.now in
     let open_ : closes line ≡ false = search rules in
     let more : close_len (lines left) ≡ length line + close_len (lines behind) =
-      ap close_len c.first_line-in-lines.ensures.lines ∙ close_later line (lines behind) open_ in
+    ap close_len c.first_line-in-lines.ensures.lines ∙ close_later line (lines behind) open_ in
     let sizes : length line + length behind ≡ length left = c.first_line-in-lines.ensures.sizes in
     record {
       same = omega (arith, more, sizes, c.lines.invariant.same, c.lines.invariant.shorter);

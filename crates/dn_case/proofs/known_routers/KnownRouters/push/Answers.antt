@@ -19,8 +19,8 @@ invariant_of-self-in-Ok c =
     let made : value.items ≡ router.name = c.in_ok-name.ensures.items ∙ c.as_slice.ensures.same in
     let absent : number_of inside.items.items router.name ≡ None = ap (λ (rs : List RouterDef). number_of rs router.name) c.self.view_is ∙ c.requires in
     let none : position (λ v. pointwise nat_eq router.name v.items) keys ≡ None =
-      sym (position_of_map test (λ k. k.items) keys) ∙ ap (λ (names : List (List ℕ)). position test names) c.self.invariant
-      ∙ position_of_map test (λ (r : RouterDef). r.name) inside.items.items ∙ absent in
+    sym (position_of_map test (λ k. k.items) keys) ∙ ap (λ (names : List (List ℕ)). position test names) c.self.invariant
+    ∙ position_of_map test (λ (r : RouterDef). r.name) inside.items.items ∙ absent in
     let any : list_any (λ v. pointwise nat_eq router.name v.items) keys ≡ false = nowhere (λ v. pointwise nat_eq router.name v.items) keys none in
     let any-value : list_any (λ v. pointwise nat_eq value.items v.items) keys ≡ false = rw made any in
     let added : c.insert.new.self.keys ≡ keys ++ value ∷ [] = rw any-value at c.in-Ok.ensures.keys in

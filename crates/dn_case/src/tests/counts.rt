@@ -1,0 +1,80 @@
+//! The greatest numbers of routers, links and ports, and one more.
+
+use super::first_wrong;
+use crate::read_case;
+use std::alloc::{AllocError, Global};
+use std::test::Fail;
+
+/// A text with so many routers, named r0 and up.
+fn with_routers(alloc: Global, count: u64) -> Result<String, AllocError> {
+    let mut text = String::from_str(alloc, "defined 1\nperiod 1\ngroups 1\nseed 0\n")?;
+    for i in 0..count {
+        text.push_str(format!(in alloc; "router r{i} flood\n")?.as_str())?;
+    }
+    Ok(text)
+}
+
+/// Links of each of 32 routers to the next eight: 256, and 16 ports at each.
+fn push_256_links(alloc: Global, text: &mut String) -> Result<(), AllocError> {
+    for i in 0..256u64 {
+        let a = i % 32;
+        let b = (a + i / 32 + 1) % 32;
+        text.push_str(format!(in alloc; "link r{a} r{b} 1 1\n")?.as_str())?;
+    }
+    Ok(())
+}
+
+#[test]
+fn the_65th_router_is_too_many(rt: HostRuntime) -> Result<(), Fail> {
+    let alloc = rt.alloc();
+    let mut text = with_routers(alloc, 64)?;
+    let table = "router x flood|69 many\nrouter r3 flood|69 twice\n";
+    assert_eq!(rt;
+        first_wrong(alloc, text.as_str(), "\n", table)?.as_str(),
+        ""
+    );
+    text.push_str("feed\nend\n")?;
+    let (case, _) = read_case(alloc, text.as_bytes())
+        .ok()
+        .ok_or("64 routers are a case")?;
+    assert_eq!(rt; case.header.routers.as_slice().len(), 64);
+    Ok(())
+}
+
+#[test]
+fn a_257th_link_is_too_many(rt: HostRuntime) -> Result<(), Fail> {
+    let alloc = rt.alloc();
+    let mut text = with_routers(alloc, 34)?;
+    push_256_links(alloc, &mut text)?;
+    let table = "link r32 r33 1 1|295 many\nlink r32 r32 1 1|295 same\n";
+    assert_eq!(rt;
+        first_wrong(alloc, text.as_str(), "\n", table)?.as_str(),
+        ""
+    );
+    text.push_str("feed\n@0 r31 down 15\nend\n")?;
+    let (case, _) = read_case(alloc, text.as_bytes())
+        .ok()
+        .ok_or("256 links are a case")?;
+    assert_eq!(rt; case.header.links.as_slice().len(), 256);
+    Ok(())
+}
+
+#[test]
+fn a_17th_port_is_too_many(rt: HostRuntime) -> Result<(), Fail> {
+    let alloc = rt.alloc();
+    let mut text = with_routers(alloc, 3)?;
+    for _ in 0..16 {
+        text.push_str("link r0 r1 1 1\n")?;
+    }
+    let table = "link r2 r0 1 1|24 many
+link r0 r2 1 1|24 many
+link r0 r0 1 1|24 same
+link r0 x 1 1|24 name
+link r0 r2 1 0|24 range
+";
+    assert_eq!(rt;
+        first_wrong(alloc, text.as_str(), "\n", table)?.as_str(),
+        ""
+    );
+    Ok(())
+}
