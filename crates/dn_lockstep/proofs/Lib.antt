@@ -7,3 +7,4 @@ pub mod Places
 pub mod Handling
 pub mod Onward
 pub mod Start
+pub mod Messages
