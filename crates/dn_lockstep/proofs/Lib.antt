@@ -8,3 +8,4 @@ pub mod Handling
 pub mod Onward
 pub mod Start
 pub mod Messages
+pub mod TwoRouters

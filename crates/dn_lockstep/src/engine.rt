@@ -60,6 +60,7 @@ impl<G: Guest> Engine<G> {
         requires { length guests.items ≡ length case.now.header.routers }
         ensures stands { IfOk result (λ made. (net : Network G) → net.header ≡ case.now.header → net.guests ≡ G.meaning → ((r : ℕ) → r < routers net → slice_get guests.items r ≡ Some (net.opening r)) → StandsIn net case.now.feed made) }
         ensures place { IfOk result (λ made. made.place ≡ 0) }
+        ensures header { IfOk result (λ made. made.header ≡ case.now.header) }
     {
         let header = case.header.copy(alloc)?;
         let wiring = Wiring::new(alloc, &header)?;
