@@ -24,11 +24,14 @@ struct Queued {
 }
 
 impl Queued {
-    /// The reversed order of events.
+    /// The reversed order of events. Most often the keys differ, and the inputs are not looked at.
     fn order(&self, other: &Queued) -> Ordering
         ensures { result ≡ later_cmp self.now other.now }
     {
-        other.event.cmp(&self.event)
+        match other.event.key.cmp(&self.event.key) {
+            Ordering::Equal => other.event.cmp(&self.event),
+            decided => decided,
+        }
     }
 
     /// Whether the event is a message to the router.

@@ -6,3 +6,4 @@ pub mod Waves
 pub mod Rows
 pub mod Steps
 pub mod Committed
+pub mod AtRouters
