@@ -1,11 +1,16 @@
 -- The least of some events, and the top of a heap in the reversed order.
-use Rattle.std.proofs.Common.{◌≡◌, ◌<◌, true, false, List, [], ◌∷◌, length, get_or, sym, ◌∙◌, ap, subst, arith, map}
+use Rattle.std.proofs.Common.{◌≡◌, ◌<◌, true, false, List, [], ◌∷◌, length, get_or, refl, sym, ◌∙◌, ap, subst, arith, map}
 use Rattle.std.specs.List.{AllByRecursion}
 use Rattle.std.specs.List.Sorted.{IsPermutation}
 use Rattle.std.proofs.lemmas.List.Sorted.{IsPermutation-refl, IsPermutation-map}
 use Rattle.std.specs.BinaryHeap.{IsUpperBound}
+use Rattle.std.specs.Ordering.{ordering_then, nat_cmp}
+use Rattle.std.specs.declared.cmp.Ordering.{Ordering}
+use Rattle.std.specs.declared.cmp.Ordering.TheVariants.{Less, Equal, Greater}
+use Rattle.dn_guest.specs.InputOrder.{input_cmp}
+use Rattle.dn_model.proofs.EventOrder.{event_cmp_is}
 use Rattle.dn_model.specs.declared.event.Event.{Event}
-use Rattle.dn_model.specs.Order.{event_cmp, event_total}
+use Rattle.dn_model.specs.Order.{key_cmp, event_cmp, event_total}
 use Rattle.dn_lists.proofs.Sorting.{turn, count, count_permutation}
 use Rattle.dn_lockstep.specs.declared.queue.Queued.{Queued}
 use Rattle.dn_lockstep.specs.Least.{IsUpTo, IsLeast}
@@ -32,3 +37,12 @@ least_waits e events least none =
     let a = count_permutation (λ w. true) events (e ∷ least.rest) least.among in
     let b : count (λ w. true) events ≡ 0 = ap (count (λ w. true)) none in
     omega (arith, a, b)
+
+-- where the keys differ, they decide
+pub keys_decide : (x y : Event) → (key_cmp x.key y.key ≡ Equal → ⊥) → key_cmp x.key y.key ≡ event_cmp x y
+keys_decide x y differ = decide (key_cmp x.key y.key) refl
+  where
+    decide : (r : Ordering) → key_cmp x.key y.key ≡ r → key_cmp x.key y.key ≡ event_cmp x y
+    decide Less e = e ∙ ap (λ k. ordering_then (ordering_then k (nat_cmp x.router y.router)) (input_cmp x.input y.input)) (sym e) ∙ sym (event_cmp_is x y)
+    decide Equal e = absurd (differ e)
+    decide Greater e = e ∙ ap (λ k. ordering_then (ordering_then k (nat_cmp x.router y.router)) (input_cmp x.input y.input)) (sym e) ∙ sym (event_cmp_is x y)

@@ -7,3 +7,5 @@ pub mod Places
 pub mod Handling
 pub mod Onward
 pub mod Start
+pub mod Messages
+pub mod TwoRouters

@@ -4,6 +4,8 @@
 ghost use Rattle.std.specs.Prelude.{◌≡◌, ◌<◌, [], ◌∷◌, ◌++◌, true, length, IfOk, IfSome, IfNone, OnOk, OnErr};
 ghost use Rattle.std.specs.List.Sorted.{IsPermutation};
 ghost use Rattle.dn_model.specs.Network.{tick, external, externals};
+ghost use Rattle.dn_model.specs.SoFar.{by_router};
+ghost use Rattle.dn_lockstep.specs.Running.{messages};
 ghost use Rattle.dn_lockstep.specs.Least.{IsLeast, IsUpTo};
 ghost use Rattle.dn_lockstep.specs.Agendas.{waiting_in, count_before, group_ticks, later_ticks, IsFronted};
 
@@ -72,6 +74,13 @@ impl Agenda {
         ensures { OnOk result (IsPermutation (event ∷ waiting_in self.old) (waiting_in self.new)) }
     {
         self.queue.push(event)
+    }
+
+    /// Copies of the messages to a router that wait, in no particular order.
+    pub(crate) fn messages_to(&self, alloc: Global, router: u16) -> Result<Vec<Event>, NoMemory>
+        ensures { IfOk result (λ found. found.items ≡ messages (by_router (waiting_in self.now) router)) }
+    {
+        self.queue.messages_to(alloc, router)
     }
 
     /// Begins the next group, unless an event of an earlier group waits.

@@ -1,8 +1,9 @@
 //! The engine.
 
-ghost use Rattle.std.specs.Prelude.{◌≡◌, ◌+◌, ◌<◌, ◌≤◌, ℕ, List, Some, true, length, slice_get, IfOk, IfErr, OnErr, IsErr, option_copied};
+ghost use Rattle.std.specs.Prelude.{◌≡◌, ◌+◌, ◌<◌, ◌≤◌, ◌++◌, ℕ, List, Some, true, length, slice_get, IfOk, IfErr, OnErr, IsErr, option_copied};
 ghost use Rattle.std.specs.List.Sorted.{IsPermutation, IsSorted};
 ghost use Rattle.dn_model.specs.declared.feed.External.{External};
+ghost use Rattle.dn_model.specs.Order.{event_cmp};
 ghost use Rattle.dn_model.specs.Network.{Network, routers, sent_to, state};
 ghost use Rattle.dn_model.specs.Settled.{row_limit, rows};
 ghost use Rattle.dn_model.specs.SoFar.{by_router};
@@ -143,5 +144,17 @@ impl<G: Guest> Engine<G> {
         ensures replay { (net : Network G) (feed : List External) → StandsIn net feed self.now → result.now ≡ state net router (by_router (first_rows net feed self.now.place) router) }
     {
         &self.nodes[usize::from(router)]
+    }
+
+    /// The messages to a router that the rows so far emitted and that aren't rows yet, in order.
+    pub fn waiting(&self, alloc: Global, router: u16) -> Result<Vec<Event>, NoMemory>
+        requires { router < length self.now.header.routers }
+        ensures sorted { IfOk result (λ found. IsSorted event_cmp found.items) }
+        ensures elements { IfOk result (λ found. IsPermutation (messages (by_router self.now.waiting router)) found.items) }
+        ensures sent { (net : Network G) (feed : List External) → StandsIn net feed self.now → IfOk result (λ found. IsPermutation (sent_to net (by_router (first_rows net feed self.now.place)) router) (messages (by_router (first_rows net feed self.now.place) router) ++ found.items)) }
+    {
+        let mut found = self.agenda.messages_to(alloc, router)?;
+        found.sort_unstable();
+        Ok(found)
     }
 }

@@ -1,9 +1,12 @@
 //! The queue: a heap of events, of which the least comes first.
 
-ghost use Rattle.std.specs.Prelude.{◌≡◌, [], ◌∷◌, IfSome, IfNone, OnOk, OnErr, refl};
+ghost use Rattle.std.specs.Prelude.{◌≡◌, [], ◌∷◌, IfSome, IfOk, IfNone, OnOk, OnErr, ◌&&◌, ◌==◌, refl};
 ghost use Rattle.std.specs.List.Sorted.{IsPermutation};
 ghost use Rattle.std.specs.Ordering.{as_partial_cmp, eq_by_cmp};
 ghost use Rattle.std.specs.Cmp.{partial_equiv_from_equiv, eq_by_cmp_equiv, partial_order_from_total};
+ghost use Rattle.dn_model.specs.Network.{is_at};
+ghost use Rattle.dn_model.specs.SoFar.{by_router};
+ghost use Rattle.dn_lockstep.specs.Running.{messages};
 ghost use Rattle.dn_lockstep.specs.Least.{IsLeast, IsUpTo};
 ghost use Rattle.dn_lockstep.specs.Queues.{later_cmp, later_total};
 
@@ -21,11 +24,22 @@ struct Queued {
 }
 
 impl Queued {
-    /// The reversed order of events.
+    /// The reversed order of events. Most often the keys differ, and the inputs are not looked at.
     fn order(&self, other: &Queued) -> Ordering
         ensures { result ≡ later_cmp self.now other.now }
     {
-        other.event.cmp(&self.event)
+        match other.event.key.cmp(&self.event.key) {
+            Ordering::Equal => other.event.cmp(&self.event),
+            decided => decided,
+        }
+    }
+
+    /// Whether the event is a message to the router.
+    #[tactic(auto, unfolding(dn_model::specs::Network::is_at))]
+    fn is_message_to(&self, router: u16) -> bool
+        ensures { result ≡ (is_at router self.now.event && (self.now.event.key.class == 2)) }
+    {
+        self.event.router == router && self.event.key.class == 2
     }
 }
 
@@ -122,5 +136,18 @@ impl EventQueue {
     {
         let top = self.heap.pop()?;
         Some(top.event)
+    }
+
+    /// Copies of the messages to a router, in the queue's order.
+    pub(crate) fn messages_to(&self, alloc: Global, router: u16) -> Result<Vec<Event>, NoMemory>
+        ensures { IfOk result (λ found. found.items ≡ messages (by_router self.now router)) }
+    {
+        let mut found = Vec::new(alloc);
+        for queued in self.heap.as_slice() {
+            if queued.is_message_to(router) {
+                found.push(queued.event.copy(alloc)?)?;
+            }
+        }
+        Ok(found)
     }
 }

@@ -81,7 +81,7 @@ unfolding externals
 externals_injected place [] = tt
 externals_injected place (x ∷ xs) = (omega arith, externals_injected (suc place) xs)
 
-injected_injected : (n : ℕ) (feed : List External) (r : ℕ) → AllByRecursion IsInjected (injected n feed r)
+pub injected_injected : (n : ℕ) (feed : List External) (r : ℕ) → AllByRecursion IsInjected (injected n feed r)
 unfolding injected
 injected_injected n feed r =
     all_append IsInjected (ticks n r) (filter (is_at r) (externals 0 feed)) (ticks_injected n r) (all_filter IsInjected (is_at r) (externals 0 feed) (externals_injected 0 feed))
