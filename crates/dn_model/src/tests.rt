@@ -5,9 +5,10 @@ ghost use Rattle.dn_model.specs.declared.router.Kind.TheVariants as Kind;
 
 use crate::{
     Case, Event, External, Feed, Header, Key, Kind, Link, Links, Name, Prefixes, RouterDef,
-    Routers, Timing, emitted, ends, fin, is_name, opening, row_limit, tie,
+    Routers, Timing, emitted, ends, fin, is_name, laws, opening, row_limit, tie,
 };
 use dn_guest::{Bytes, Flood, Input, NoMemory, Sent};
+use dn_lists::a_sort_is_the_one_rising_list;
 use std::alloc::Global;
 use std::test::Fail;
 
@@ -72,7 +73,7 @@ fn names_good_and_bad(rt: HostRuntime) -> Result<(), Fail> {
     ];
     for (bytes, good) in names {
         let name = Name::from_bytes(Bytes::from_slice(rt.alloc(), bytes)?);
-        assert_eq!(rt; name.is_some(), good);
+        assert_eq!(rt; (is_name(bytes), name.is_some()), (good, good));
     }
     Ok(())
 }
@@ -199,5 +200,17 @@ fn a_case_is_copied(rt: HostRuntime) -> Result<(), Fail> {
         assert_eq!(rt; case.header.links.as_slice().len(), 1);
         assert_eq!(rt; row_limit(&case.header), 200_000);
     }
+    Ok(())
+}
+
+/// Each law once at a concrete guest.
+#[test]
+fn the_laws_hold_of_flooding_routers(rt: HostRuntime) -> Result<(), Fail> {
+    laws::cases_are_timed::<Flood>();
+    laws::one_settled_family::<Flood>();
+    laws::rows_below_a_key::<Flood>();
+    laws::rows_one_by_one::<Flood>();
+    laws::messages_were_sent::<Flood>();
+    a_sort_is_the_one_rising_list::<Event>();
     Ok(())
 }

@@ -7,6 +7,7 @@ ghost use Rattle.std.specs.List.{AllByRecursion, count_by};
 ghost use Rattle.dn_model.specs.declared.event.Event.{Event};
 ghost use Rattle.dn_model.specs.declared.feed.External.{External};
 ghost use Rattle.dn_model.specs.declared.key.Key.{Key};
+ghost use Rattle.dn_model.specs.Cases.{Recording, IsRecording};
 ghost use Rattle.dn_model.specs.Network.{Network, routers, sent, sent_from, state, state_from};
 ghost use Rattle.dn_guest.specs.Node.{node_after};
 ghost use Rattle.dn_model.specs.Settled.{IsTimed, IsFeedOf, IsPrefixOf, lockstep, rows, shown_rows, is_cut};
@@ -17,6 +18,13 @@ ghost use Rattle.dn_world.specs.Steps.{is_enabled, after, emits, kept, taken_off
 ghost use Rattle.dn_world.specs.Runs.{IsLegal, IsLegalOf, IsFedFrom, DontFall, world, injects, Continues, settled_rows, fresh_rows, committed, committed_at, committed_state, is_cut_off, IsPast, IsAllPast, IsBalanced, IsPlayable, IsTidy};
 ghost use Rattle.dn_lists.specs.InOrder.{put_in_order};
 ghost use Rattle.dn_model.specs.Order.{event_cmp};
+
+/// The rules of a case give the premises of these laws: times pass, there is a group, and the groups of the
+/// feed don't fall. That the externals lie in the groups says `dn_model::laws::cases_are_timed`.
+pub fn playable_cases<S>()
+    ensures playable { (net : Network S) (case : Recording) → IsRecording case → net.header ≡ case.header → IsPlayable net.header }
+    ensures dont_fall { (case : Recording) → IsRecording case → DontFall case.feed }
+{}
 
 /// Nothing is lost and nothing is made. At each router what it has handled, what it has still to handle and
 /// what flies to it are, up to order, what came from outside so far, what the replays of all handled
@@ -43,7 +51,7 @@ pub fn boundary<S>()
 {}
 
 /// What is committed is final. For every case that goes on where the world is, the committed rows are a
-/// front of the case's lockstep rows, those of each router are a front of its lockstep list, the router's
+/// prefix of the case's lockstep rows, those of each router are a prefix of its lockstep list, the router's
 /// committed state is its lockstep state after as many rows, and a world that has too many rows for a trace
 /// is one of a case that has too many.
 pub fn prefix<S>()
@@ -115,7 +123,7 @@ pub fn horizon<S>()
     ensures only { (a b : Key) → IsPast a b → IsPast b a → a ≡ b }
 {}
 
-/// Replays go on from the node that a front of the history leaves, so a kept node at a place serves in place
+/// Replays go on from the node that a prefix of the history leaves, so a kept node at a place serves in place
 /// of the whole replay. What a rollback keeps and what it takes off are the handled list.
 pub fn replays<S>()
     ensures state { (net : Network S) (r : ℕ) (xs ys : List Event) → state net r (xs ++ ys) ≡ state_from net (state net r xs) ys }

@@ -20,7 +20,7 @@
 //! | `laws.rt` | the laws, for all networks and all legal runs |
 //!
 //! The one contract upwards: `laws::prefix`. Whatever takes a world by these steps alone, in any order and by
-//! any number of workers, has at each moment committed a front of the lockstep run.
+//! any number of workers, has at each moment committed a prefix of the lockstep rows.
 //!
 //! `proofs/Computes.antt` has runs with rollbacks and unsends that the definitions alone compute, step by
 //! step. The crate has no code but the two types, so no edit of its code turns a meaning, and it has no
@@ -33,3 +33,6 @@ mod step;
 
 pub use packet::Packet;
 pub use step::Step;
+
+#[cfg(test)]
+mod tests;
