@@ -12,9 +12,9 @@ use Rattle.dn_trace.specs.Rows.{row_line, row_lines}
 -- a front that was put, and the rest
 split_at : (told : Option (List ℕ)) (text : List ℕ) (n : ℕ) → PutsOrKeeps told (behind told (take n text)) (drop n text) text
 split_at told text n = record {
-    whole = behind-behind told (take n text) (drop n text) ∙ ap (behind told) (take-append-drop n text);
-    rest = simp length-drop (omega arith);
-  }
+  whole = behind-behind told (take n text) (drop n text) ∙ ap (behind told) (take-append-drop n text);
+  rest = simp length-drop (omega arith);
+}
 
 -- a front of what was kept is a front of the whole text
 pub front_of_kept : (old then now : Option (List ℕ)) (kept text : List ℕ) → PutsOrKeeps old then kept text → PutsFront then now kept → PutsFront old now text
@@ -28,9 +28,9 @@ front_of_kept old then now kept text first front =
 -- the same text behind what is kept and behind the whole
 pub kept_more : (old now : Option (List ℕ)) (kept text more : List ℕ) → PutsOrKeeps old now kept text → PutsOrKeeps old now (kept ++ more) (text ++ more)
 kept_more old now kept text more it = record {
-    whole = sym (behind-behind now kept more) ∙ ap (λ (told : Option (List ℕ)). behind told more) it.whole ∙ behind-behind old text more;
-    rest = omega (arith, length-append kept more, length-append text more, it.rest);
-  }
+  whole = sym (behind-behind now kept more) ∙ ap (λ (told : Option (List ℕ)). behind told more) it.whole ∙ behind-behind old text more;
+  rest = omega (arith, length-append kept more, length-append text more, it.rest);
+}
 
 -- nothing was put, and all is to come
 pub all_to_come : (told : Option (List ℕ)) (text : List ℕ) → PutsOrKeeps told told text text

@@ -42,8 +42,8 @@ cut_answer place rs is =
     by_test (place == length rs)
     (λ h. let no : Cut ≡ End = simp h at is in cc)
     (λ h. by_test (place == row_limit)
-      (λ k. (eqb-false place (length rs) h, eqb-true place row_limit k))
-      (λ k. let no : Cut ≡ Row = simp (h, k) at is in cc))
+    (λ k. (eqb-false place (length rs) h, eqb-true place row_limit k))
+    (λ k. let no : Cut ≡ Row = simp (h, k) at is in cc))
 
 module _ {S : Type 0} (net : Network S) (feed : List External) where
   pub last_lines_are : (e : Running S) → IsAtEnd net feed e → node_lines net.guests net.header.routers e.nodes (length net.header.routers) ++ end_line e.place ≡ last_lines net feed

@@ -121,10 +121,10 @@ module _ {S : Type 0} (net : Network S) (feed : List External) where
       let there : slice_get section at ≡ Some (get_or section at 0) = slice_get-get_or section at 0 (ltb-true at (length section) h) in
       let past : slice_get (trace_text net feed) at ≡ None = slice_get_past (trace_text net feed) at (omega (arith, size)) in
       let fact : DiffersAt section (trace_text net feed) at = record {
-          same = sym (take_all at (take at section) (omega (arith, long))) ∙ ap (take at) trace;
-          within = (within, omega (arith, size));
-          apart = λ e. let no : Some (get_or section at 0) ≡ None = sym there ∙ e ∙ past in cc;
-        } in
+        same = sym (take_all at (take at section) (omega (arith, long))) ∙ ap (take at) trace;
+        within = (within, omega (arith, size));
+        apart = λ e. let no : Some (get_or section at 0) ≡ None = sym there ∙ e ∙ past in cc;
+      } in
       subst (DiffersAt section (trace_text net feed)) here fact)
       (λ h. not_checked e found (let r : checked_of e ≡ checked.Differs found = simp h at differs in r))
     where
@@ -158,14 +158,14 @@ differs_behind section piece rest trace at n within same room inside equal apart
     let front = take at section in
     let long : length front ≡ at = length-take-le at section within in
     let fact : DiffersAt section (front ++ (piece ++ rest)) (at + n) = record {
-        same = take-add at n section ∙ ap (λ (l : List ℕ). front ++ l) (equal ∙ sym (take-append-le n piece rest (omega arith))) ∙ sym (take-front front (piece ++ rest) n) ∙ ap (λ (k : ℕ). take (k + n) (front ++ (piece ++ rest))) long;
-        within = (omega (arith, length-drop at section), omega (arith, length-append front (piece ++ rest), length-append piece rest, long));
-        apart = λ e.
-            let left : slice_get section (at + n) ≡ slice_get (drop at section) n = slice_get-drop section at n in
-            let right : slice_get (front ++ (piece ++ rest)) (at + n) ≡ slice_get piece n =
-              ap (λ (k : ℕ). slice_get (front ++ (piece ++ rest)) (k + n)) (sym long) ∙ slice_get-drop (front ++ (piece ++ rest)) (length front) n ∙ ap (λ (l : List ℕ). slice_get l n) (drop-front front (piece ++ rest)) ∙ slice_get-append piece rest n inside in
-            apart (sym left ∙ e ∙ right);
-      } in
+      same = take-add at n section ∙ ap (λ (l : List ℕ). front ++ l) (equal ∙ sym (take-append-le n piece rest (omega arith))) ∙ sym (take-front front (piece ++ rest) n) ∙ ap (λ (k : ℕ). take (k + n) (front ++ (piece ++ rest))) long;
+      within = (omega (arith, length-drop at section), omega (arith, length-append front (piece ++ rest), length-append piece rest, long));
+      apart = λ e.
+          let left : slice_get section (at + n) ≡ slice_get (drop at section) n = slice_get-drop section at n in
+          let right : slice_get (front ++ (piece ++ rest)) (at + n) ≡ slice_get piece n =
+          ap (λ (k : ℕ). slice_get (front ++ (piece ++ rest)) (k + n)) (sym long) ∙ slice_get-drop (front ++ (piece ++ rest)) (length front) n ∙ ap (λ (l : List ℕ). slice_get l n) (drop-front front (piece ++ rest)) ∙ slice_get-append piece rest n inside in
+          apart (sym left ∙ e ∙ right);
+    } in
     subst (λ t. DiffersAt section t (at + n)) same fact
 
 -- the piece stands in the section too

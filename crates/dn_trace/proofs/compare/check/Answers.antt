@@ -9,12 +9,12 @@ use Rattle.dn_trace.proofs.compare.check.Goals as goal
 
 pub pieces-init : goal.pieces-init
 pieces-init g c = record {
-    header = c.in_ok-trace.ensures.header;
-    stands = c.in_ok-trace.ensures.stands;
-    rightly = λ net is. opens_rightly net c.args.case.now.feed c.in_ok-trace.trace.stage c.in_ok-trace.ensures.opening;
-    same = λ net is. opening_text net c.args.case.now.feed c.in_ok-trace.trace.stage c.in_ok-trace.trace.engine.place c.in_ok-trace.ensures.opening c.in_ok-trace.ensures.place;
-    within = omega arith;
-  }
+  header = c.in_ok-trace.ensures.header;
+  stands = c.in_ok-trace.ensures.stands;
+  rightly = λ net is. opens_rightly net c.args.case.now.feed c.in_ok-trace.trace.stage c.in_ok-trace.ensures.opening;
+  same = λ net is. opening_text net c.args.case.now.feed c.in_ok-trace.trace.stage c.in_ok-trace.trace.engine.place c.in_ok-trace.ensures.opening c.in_ok-trace.ensures.place;
+  within = omega arith;
+}
 
 pub returns-in-Some-clause-equal : goal.returns-in-Some-clause-equal
 returns-in-Some-clause-equal g c = λ net is same.
@@ -43,7 +43,7 @@ returns-then-same-len-clause-differs g c = λ net is place answer.
     let here : at + n ≡ place = cc in
     let text = c.in_ok-push_next.ensures.text net feed is.of_guest (is.of_header ∙ sym c.pieces.invariant.header) (c.pieces.invariant.stands net is) in
     let more : piece ++ to_come net feed now.stage now.engine.place ≡ to_come net feed was.stage was.engine.place =
-      text ∙ ap (λ (l : List ℕ). l ++ to_come net feed was.stage was.engine.place) c.clear.ensures in
+    text ∙ ap (λ (l : List ℕ). l ++ to_come net feed was.stage was.engine.place) c.clear.ensures in
     let within = rw (c.behind-rest.ensures, c.as_slice.ensures) at c.same_front-same.ensures.within in
     let equal = rw (c.behind-rest.ensures, c.as_slice.ensures) at c.same_front-same.ensures.same in
     let apart = rw (c.behind-rest.ensures, c.as_slice.ensures) at c.same_front-same.ensures.apart in

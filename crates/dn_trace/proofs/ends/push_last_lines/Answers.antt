@@ -15,7 +15,7 @@ returns g c =
     let e = c.args.engine.now in
     let routers_are : net.header.routers ≡ c.args.routers.now = ap (λ h. h.routers) header ∙ c.requires.same in
     let lines : node_lines g.G.Guest.meaning c.args.routers.now e.nodes (length c.args.routers.now) ++ end_line e.place ≡ last_lines net feed =
-      rw (← guests, ← routers_are) (last_lines_are net feed e end) in
+    rw (← guests, ← routers_are) (last_lines_are net feed e end) in
     let states = node_lines g.G.Guest.meaning c.args.routers.now e.nodes (length c.args.routers.now) in
     c.in_ok-push_end_line.ensures
     ∙ ap (λ (l : List ℕ). l ++ end_line c.args.rows) c.in_ok-push_states.ensures

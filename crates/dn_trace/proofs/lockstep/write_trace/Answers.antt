@@ -5,12 +5,12 @@ use Rattle.dn_trace.proofs.lockstep.write_trace.Goals as goal
 
 pub pieces-init : goal.pieces-init
 pieces-init g c = record {
-    header = c.in-Ok.ensures.header;
-    stands = c.in-Ok.ensures.stands;
-    rightly = λ net is. opens_rightly net c.args.case.now.feed c.in-Ok.trace.stage c.in-Ok.ensures.opening;
-    written = λ net is. none_written net c.args.case.now.feed (g.K.Sink.holds c.args.sink.now) c.new-text.result c.in-Ok.trace.stage c.in-Ok.trace.engine.place c.new-text.ensures c.in-Ok.ensures.opening c.in-Ok.ensures.place;
-    later = omega arith;
-  }
+  header = c.in-Ok.ensures.header;
+  stands = c.in-Ok.ensures.stands;
+  rightly = λ net is. opens_rightly net c.args.case.now.feed c.in-Ok.trace.stage c.in-Ok.ensures.opening;
+  written = λ net is. none_written net c.args.case.now.feed (g.K.Sink.holds c.args.sink.now) c.new-text.result c.in-Ok.trace.stage c.in-Ok.trace.engine.place c.new-text.ensures c.in-Ok.ensures.opening c.in-Ok.ensures.place;
+  later = omega arith;
+}
 
 pub returns-in_err-put_text-clause-front : goal.returns-in_err-put_text-clause-front
 returns-in_err-put_text-clause-front g c = λ net is.

@@ -20,7 +20,7 @@ returns-in_ok-push_last-in-Row-clause-text g c =
     let routers_are : net.header.routers ≡ c.args.routers.now = ap (λ h. h.routers) header ∙ c.requires.same in
     let out = c.args.out.now in
     let written : c.push_last.new.out ≡ out ++ line_of_last net.header.routers new.last =
-      c.in_ok-push_last-in-Row.ensures ∙ ap (λ (defs : List RouterDef). out ++ line_of_last defs new.last) (sym routers_are) in
+    c.in_ok-push_last-in-Row.ensures ∙ ap (λ (defs : List RouterDef). out ++ line_of_last defs new.last) (sym routers_are) in
     rw c.requires.rows
     (ap (λ (l : List ℕ). l ++ rows_to_come net feed new.place) written ∙ row_text net feed new old.place out moved.0 moved.1 onward.0)
 
@@ -35,7 +35,7 @@ returns-in_ok-push_last_lines-in-End-clause-text g c =
     let whole = whole_text net feed new moved.1 within in
     let out = c.args.out.now in
     let written : c.push_last_lines.new.out ≡ out ++ last_lines net feed =
-      c.in_ok-push_last_lines-in-End.ensures net feed guests (header ∙ sym c.next.ensures.header) moved.1 in
+    c.in_ok-push_last_lines-in-End.ensures net feed guests (header ∙ sym c.next.ensures.header) moved.1 in
     append-nil c.push_last_lines.new.out ∙ written ∙ ap (λ (l : List ℕ). out ++ l) (sym whole.1) ∙ ap (λ e. out ++ rows_to_come net feed e.place) moved.0
 
 pub returns-in_ok-push_last_lines-in-End-clause-ending : goal.returns-in_ok-push_last_lines-in-End-clause-ending
