@@ -13,7 +13,8 @@ use Rattle.dn_lists.proofs.Sorting.{all_in_order, in_order_is}
 use Rattle.dn_model.proofs.EventOrder.{event_same}
 use Rattle.dn_model.proofs.Waves.{sort, filter_sort, lockstep_is, lockstep_fine}
 use Rattle.dn_model.proofs.Rows.{joined_filter, passing}
-use Rattle.dn_model.proofs.Steps.{injected_at, all_joined_below}
+use Rattle.dn_model.proofs.Causes.{all_joined_below}
+use Rattle.dn_model.proofs.Steps.{injected_at}
 
 -- of lists that are empty but for one, there is only that one
 joined_of : (n : ℕ) (f : Family) (r : ℕ) → ((s : ℕ) → s < n → (s ≡ r → ⊥) → f s ≡ []) → (r < n → joined n f ≡ f r) × (n ≤ r → joined n f ≡ [])
@@ -41,7 +42,7 @@ module _ {S : Type 0} (net : Network S) (feed : List External) where
   unfolding due sent_to is_at
   due_at f r =
       all_append (λ e. e.router ≡ r) (injected net.header.groups feed r) (sent_to net f r) (injected_at net net.header.groups feed r)
-      (all_joined_below net (λ e. e.router ≡ r) (routers net) (λ s. filter (is_at r) (sent net s (f s)))
+      (all_joined_below (λ e. e.router ≡ r) (routers net) (λ s. filter (is_at r) (sent net s (f s)))
       (λ s l. all_weaker (λ e. is_at r e ≡ true) (λ e. e.router ≡ r) (filter (is_at r) (sent net s (f s))) (λ e h. eqb-true e.router r h) (passing (is_at r) (sent net s (f s)))))
 
   module _ (timed : IsTimed net.header) (fed : IsFeedOf net.header feed) where

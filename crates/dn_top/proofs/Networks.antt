@@ -6,8 +6,16 @@ use Rattle.std.proofs.lemmas.Option.{slice_get-get_or}
 use Rattle.dn_guest.specs.Flood.{Bodies, flood}
 use Rattle.dn_model.specs.Cases.{Heading}
 use Rattle.dn_model.specs.Network.{Network, routers}
-use Rattle.dn_trace.specs.Streaming.{IsRunOf}
-use Rattle.dn_top.specs.Promises.{network_of}
+use Rattle.std.proofs.Common.{Option, ◌++◌}
+use Rattle.dn_io.specs.Streams.{behind, PutsFront}
+use Rattle.dn_io.proofs.StreamLaws.{behind-behind, PutsFront-longer, PutsFront-after}
+use Rattle.dn_model.specs.Cases.{Recording}
+use Rattle.dn_case.specs.Spelling.{case_text}
+use Rattle.dn_trace.specs.declared.stream.Ending.{Ending}
+use Rattle.dn_trace.specs.declared.stream.Ending.TheVariants as ending
+use Rattle.dn_trace.specs.declared.stream.Stage.TheVariants as stage
+use Rattle.dn_trace.specs.Streaming.{IsRunOf, EndsRightly}
+use Rattle.dn_top.specs.Promises.{network_of, is_cut_case, is_cut_ending, trace_of, written}
 
 fresh_at : (n r : ℕ) → r < n → slice_get (replicate {A = Bodies} n []) r ≡ Some []
 fresh_at n r l =
@@ -25,3 +33,22 @@ flooding_run h guests fresh = record {
 
 pub one_each : (h : Heading) (guests : List Bodies) → guests ≡ replicate (length h.routers) [] → length guests ≡ length h.routers
 one_each h guests fresh = rw fresh (length-replicate (length h.routers) [])
+
+-- how the trace ended tells whether the run is cut
+pub ending_tells : (c : Recording) (e : Ending) → EndsRightly (network_of c.header) c.feed (stage.Ended e) → is_cut_case c ≡ is_cut_ending e
+ending_tells c ending.Whole right = right
+ending_tells c ending.Cut right = right
+
+-- the recording, and then the trace
+pub both_written : (c : Recording) (old then now : Option (List ℕ)) → then ≡ behind old (case_text c) → now ≡ behind then (trace_of c) → now ≡ behind old (written c)
+unfolding written
+both_written c old then now first second =
+    second ∙ ap (λ (told : Option (List ℕ)). behind told (trace_of c)) first ∙ behind-behind old (case_text c) (trace_of c)
+
+pub recording_begun : (c : Recording) (old now : Option (List ℕ)) → PutsFront old now (case_text c) → PutsFront old now (written c)
+unfolding written
+recording_begun c old now front = PutsFront-longer (trace_of c) front
+
+pub trace_begun : (c : Recording) (old then now : Option (List ℕ)) → then ≡ behind old (case_text c) → PutsFront then now (trace_of c) → PutsFront old now (written c)
+unfolding written
+trace_begun c old then now first front = PutsFront-after (case_text c) first front

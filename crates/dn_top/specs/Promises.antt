@@ -11,6 +11,8 @@ use Rattle.dn_case.specs.Spelling.{case_text}
 use Rattle.dn_case.specs.Reading.{IsCaseFront, IsFirstBad, HasNoCase}
 use Rattle.dn_trace.specs.Trace.{trace_text}
 use Rattle.dn_trace.specs.Differing.{DiffersAt}
+use Rattle.dn_trace.specs.declared.stream.Ending.{Ending}
+use Rattle.dn_trace.specs.declared.stream.Ending.TheVariants as ending
 use Rattle.dn_top.specs.declared.status.Status.{Status}
 use Rattle.dn_top.specs.declared.status.Status.TheVariants as status
 use Rattle.dn_top.specs.declared.words.Command.{Command}
@@ -25,6 +27,11 @@ network_of h = record { header = h; guests = flood; opening = λ r. [] }
 -- the lockstep run of a case has more rows than a trace shows
 abbrev pub is_cut_case : Recording → Bool
 is_cut_case c = is_cut (network_of c.header) c.feed
+
+-- the ending of a cut trace
+abbrev pub is_cut_ending : Ending → Bool
+is_cut_ending ending.Whole = false
+is_cut_ending ending.Cut = true
 
 -- the trace of a case
 abbrev pub trace_of : Recording → List ℕ
@@ -112,6 +119,13 @@ is_of_comparing status.Cut = true
 is_of_comparing (status.Differs place) = true
 is_of_comparing status.NoMemory = true
 is_of_comparing _ = false
+
+-- an answer to an input that was read
+abbrev pub is_of_case : Status → Bool
+is_of_case status.Usage = false
+is_of_case status.ReadFault = false
+is_of_case status.TooBig = false
+is_of_case _ = true
 
 -- an answer for which the source was read to its end
 abbrev pub is_of_whole_input : Status → Bool

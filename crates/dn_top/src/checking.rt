@@ -2,7 +2,7 @@
 
 ghost use Rattle.std.specs.Prelude.{◌≡◌, ◌≢◌, ◌<◌, ◌≤◌, ℕ, [], true, false, length, drop, IfSome};
 ghost use Rattle.dn_io.specs.Streams.{Rose, Gives};
-ghost use Rattle.dn_top.specs.Promises.{AnswersCheck, IsOtherTrace, trace_of, is_cut_case, input_limit, is_of_whole_input, is_of_comparing};
+ghost use Rattle.dn_top.specs.Promises.{AnswersCheck, IsOtherTrace, trace_of, is_cut_case, input_limit, is_of_whole_input, is_of_case, is_of_comparing};
 
 use crate::input::{first_case, read_input};
 use crate::status::Status;
@@ -21,12 +21,20 @@ pub(crate) fn check_trace<S: Source>(alloc: Global, source: &mut S) -> Status
     ensures not_too_big { result ≢ Status.TooBig → Gives (S.left source.old) (S.left source.new) (λ came. length came ≤ input_limit) }
     ensures source_later { S.faults source.old ≤ S.faults source.new }
 {
-    let input = match read_input(alloc, source) {
-        Ok(input) => input,
-        Err(status) => return status,
-    };
-    match first_case(alloc, input.as_slice()) {
-        Ok((case, size)) => compare(alloc, input.as_slice(), &case, size),
+    match read_input(alloc, source) {
+        Ok(input) => check_input(alloc, input.as_slice()),
+        Err(status) => status,
+    }
+}
+
+/// Compares what stands behind the case at the front of the input with its trace.
+fn check_input(alloc: Global, input: &[u8]) -> Status
+    requires { length input.now ≤ input_limit }
+    ensures answers { AnswersCheck result input.now }
+    ensures only { is_of_case result ≡ true }
+{
+    match first_case(alloc, input) {
+        Ok((case, size)) => compare(alloc, input, &case, size),
         Err(status) => status,
     }
 }

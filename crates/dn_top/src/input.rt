@@ -22,6 +22,7 @@ pub(crate) fn read_input<S: Source>(alloc: Global, source: &mut S) -> Result<Vec
     ensures refusal { IfErr result (λ status. is_of_reading status ≡ true) }
     ensures fault { IsErrOf result Status.ReadFault → Rose (S.faults source.old) (S.faults source.new) }
     ensures too_big { IsErrOf result Status.TooBig → Gives (S.left source.old) (S.left source.new) (λ came. input_limit < length came) }
+    ensures too_long { IsErrOf result Status.TooBig → IfSome (S.left source.old) (λ left. input_limit < length left) }
     ensures not_too_big { result ≢ Err Status.TooBig → Gives (S.left source.old) (S.left source.new) (λ came. length came ≤ input_limit) }
     ensures later { S.faults source.old ≤ S.faults source.new }
 {
@@ -36,6 +37,7 @@ pub(crate) fn read_input<S: Source>(alloc: Global, source: &mut S) -> Result<Vec
 /// The case at the front of the input, and how many bytes it has.
 pub(crate) fn first_case(alloc: Global, input: &[u8]) -> Result<(Case, u64), Status>
     ensures found { IfOk result (λ found. IsCaseFront input.now found.0 found.1) }
+    ensures within { IfOk result (λ found. found.1 ≤ length input.now) }
     ensures refusal { IfErr result (λ status. IsCaseRefusal input.now status) }
 {
     match read_case(alloc, input) {

@@ -2,7 +2,7 @@
 
 ghost use Rattle.std.specs.Prelude.{◌≡◌, ◌≢◌, ◌<◌, ◌≤◌, [], true, length, IfSome};
 ghost use Rattle.dn_io.specs.Streams.{Rose, Gives};
-ghost use Rattle.dn_top.specs.Promises.{AnswersRun, input_limit, is_of_whole_input};
+ghost use Rattle.dn_top.specs.Promises.{AnswersRun, input_limit, is_of_whole_input, is_of_case};
 
 use crate::input::{first_case, read_input};
 use crate::status::Status;
@@ -25,11 +25,21 @@ pub(crate) fn run_lockstep<S: Source, K: Sink>(
     ensures source_later { S.faults source.old ≤ S.faults source.new }
     ensures sink_later { K.faults sink.old ≤ K.faults sink.new }
 {
-    let input = match read_input(alloc, source) {
-        Ok(input) => input,
-        Err(status) => return status,
-    };
-    match first_case(alloc, input.as_slice()) {
+    match read_input(alloc, source) {
+        Ok(input) => run_input(alloc, input.as_slice(), sink),
+        Err(status) => status,
+    }
+}
+
+/// Runs the case at the front of the input.
+fn run_input<K: Sink>(alloc: Global, input: &[u8], sink: &mut K) -> Status
+    requires { length input.now ≤ input_limit }
+    ensures answers { AnswersRun result input.now (K.holds sink.old) (K.holds sink.new) }
+    ensures only { is_of_case result ≡ true }
+    ensures fault { result ≡ Status.WriteFault → Rose (K.faults sink.old) (K.faults sink.new) }
+    ensures later { K.faults sink.old ≤ K.faults sink.new }
+{
+    match first_case(alloc, input) {
         Ok((case, _size)) => write_run(alloc, &case, sink),
         Err(status) => status,
     }

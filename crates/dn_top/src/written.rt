@@ -1,8 +1,9 @@
 //! Writing a case and the trace of its lockstep run.
 
-ghost use Rattle.std.specs.Prelude.{◌≡◌, ◌≤◌, true, false, [], replicate, IfOk};
+ghost use Rattle.std.specs.Prelude.{◌≡◌, ◌≤◌, true, false, [], replicate, IfOk, OnOk, IsErrOf};
 ghost use Rattle.dn_io.specs.Streams.{Rose, behind, PutsFront};
-ghost use Rattle.dn_top.specs.Promises.{written, is_cut_case, is_of_writing};
+ghost use Rattle.dn_case.specs.Spelling.{case_text};
+ghost use Rattle.dn_top.specs.Promises.{written, trace_of, is_cut_case, is_cut_ending, is_of_writing};
 
 use crate::status::Status;
 use dn_case::write_case;
@@ -13,7 +14,6 @@ use dn_trace::{Ending, WriteError, write_trace};
 use std::alloc::Global;
 
 /// Writes the recording, and then the trace.
-#[tactic(auto, unfolding(crate::specs::Promises::written))]
 pub(crate) fn write_run<K: Sink>(alloc: Global, case: &Case, sink: &mut K) -> Status
     ensures ok { result ≡ Status.Ok → is_cut_case case.now ≡ false }
     ensures cut { result ≡ Status.Cut → is_cut_case case.now ≡ true }
@@ -24,22 +24,59 @@ pub(crate) fn write_run<K: Sink>(alloc: Global, case: &Case, sink: &mut K) -> St
     ensures fault { result ≡ Status.WriteFault → Rose (K.faults sink.old) (K.faults sink.new) }
     ensures later { K.faults sink.old ≤ K.faults sink.new }
 {
-    let mut recording = Bytes::new(alloc);
-    if write_case(case, &mut recording).is_err() {
-        return Status::NoMemory;
-    }
-    if put_all(sink, recording.as_slice()).is_err() {
-        return Status::WriteFault;
-    }
-    let Ok(guests) = flooding_guests(alloc, case.header.routers.as_slice().len()) else {
-        return Status::NoMemory;
-    };
-    match write_trace(alloc, case, guests, sink) {
+    match write_both(alloc, case, sink) {
         Ok(Ending::Whole) => Status::Ok,
         Ok(Ending::Cut) => Status::Cut,
         Err(WriteError::Fault) => Status::WriteFault,
         Err(WriteError::NoMemory) => Status::NoMemory,
     }
+}
+
+/// The recording, and then the trace.
+fn write_both<K: Sink>(alloc: Global, case: &Case, sink: &mut K) -> Result<Ending, WriteError>
+    ensures whole { OnOk result (K.holds sink.new ≡ behind (K.holds sink.old) (written case.now)) }
+    ensures ending { IfOk result (λ ending. is_cut_case case.now ≡ is_cut_ending ending) }
+    ensures front { PutsFront (K.holds sink.old) (K.holds sink.new) (written case.now) }
+    ensures fault { IsErrOf result WriteError.Fault → Rose (K.faults sink.old) (K.faults sink.new) }
+    ensures later { K.faults sink.old ≤ K.faults sink.new }
+{
+    write_recording(alloc, case, sink)?;
+    write_flooding_trace(alloc, case, sink)
+}
+
+/// The recording: the one spelling of the case.
+fn write_recording<K: Sink>(alloc: Global, case: &Case, sink: &mut K) -> Result<(), WriteError>
+    ensures all { OnOk result (K.holds sink.new ≡ behind (K.holds sink.old) (case_text case.now)) }
+    ensures front { PutsFront (K.holds sink.old) (K.holds sink.new) (case_text case.now) }
+    ensures fault { IsErrOf result WriteError.Fault → Rose (K.faults sink.old) (K.faults sink.new) }
+    ensures later { K.faults sink.old ≤ K.faults sink.new }
+{
+    let mut text = Bytes::new(alloc);
+    let Ok(()) = write_case(case, &mut text) else {
+        return Err(WriteError::NoMemory);
+    };
+    match put_all(sink, text.as_slice()) {
+        Ok(()) => Ok(()),
+        Err(_) => Err(WriteError::Fault),
+    }
+}
+
+/// The trace of the lockstep run with a flooding guest at each router.
+fn write_flooding_trace<K: Sink>(
+    alloc: Global,
+    case: &Case,
+    sink: &mut K,
+) -> Result<Ending, WriteError>
+    ensures whole { OnOk result (K.holds sink.new ≡ behind (K.holds sink.old) (trace_of case.now)) }
+    ensures ending { IfOk result (λ ending. is_cut_case case.now ≡ is_cut_ending ending) }
+    ensures front { PutsFront (K.holds sink.old) (K.holds sink.new) (trace_of case.now) }
+    ensures fault { IsErrOf result WriteError.Fault → Rose (K.faults sink.old) (K.faults sink.new) }
+    ensures later { K.faults sink.old ≤ K.faults sink.new }
+{
+    let Ok(guests) = flooding_guests(alloc, case.header.routers.as_slice().len()) else {
+        return Err(WriteError::NoMemory);
+    };
+    write_trace(alloc, case, guests, sink)
 }
 
 /// So many flooding guests that have seen nothing.

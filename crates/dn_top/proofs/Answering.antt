@@ -1,0 +1,132 @@
+-- What a command answers, from its parts.
+use Rattle.std.proofs.Common.{◌≡◌, ◌≢◌, ℕ, ◌+◌, ◌<◌, ◌≤◌, ◌⊎◌, inl, inr, Bool, true, false, List, [], ◌++◌, length, drop, Option, Some, None, refl, sym, ap, ◌∙◌, subst, arith}
+use Rattle.std.specs.Prelude.{IfSome}
+use Rattle.dn_io.specs.Streams.{behind, PutsFront}
+use Rattle.dn_model.specs.Cases.{Recording}
+use Rattle.dn_top.specs.declared.status.Status.{Status}
+use Rattle.dn_top.specs.declared.status.Status.TheVariants as status
+use Rattle.dn_top.specs.Promises.{HasCase, HasWritten, HasBegun, HasItsTrace, HasOtherTrace, IsOtherTrace, IsBadCase, IsCaseRefusal, AnswersRun, AnswersCheck, written, trace_of, is_cut_case, input_limit, is_of_reading, is_of_writing, is_of_comparing, is_of_case, is_of_whole_input}
+
+-- what holds of a list holds of what is told, where that is the list
+pub if_told : (told : Option (List ℕ)) (xs : List ℕ) (P : List ℕ → Type 0) → IfSome told (λ l. l ≡ xs) → P xs → IfSome told P
+if_told None xs P is p = tt
+if_told (Some l) xs P is p = subst P (sym is) p
+
+-- ---- refusals of reading
+
+pub read_refused_run : (told : Option (List ℕ)) (s : Status) (old now : Option (List ℕ)) → is_of_reading s ≡ true → (s ≡ status.TooBig → IfSome told (λ l. input_limit < length l)) → now ≡ old → IfSome told (λ input. AnswersRun s input old now)
+read_refused_run None s old now of_reading big same = tt
+read_refused_run (Some l) status.ReadFault old now of_reading big same = same
+read_refused_run (Some l) status.TooBig old now of_reading big same = (big refl, same)
+read_refused_run (Some l) status.NoMemory old now of_reading big same = inl same
+read_refused_run (Some l) status.Ok old now of_reading big same = cc
+read_refused_run (Some l) (status.Differs p) old now of_reading big same = cc
+read_refused_run (Some l) status.Usage old now of_reading big same = cc
+read_refused_run (Some l) (status.BadCase f) old now of_reading big same = cc
+read_refused_run (Some l) status.Cut old now of_reading big same = cc
+read_refused_run (Some l) status.WriteFault old now of_reading big same = cc
+
+pub read_refused_check : (told : Option (List ℕ)) (s : Status) → is_of_reading s ≡ true → (s ≡ status.TooBig → IfSome told (λ l. input_limit < length l)) → IfSome told (λ input. AnswersCheck s input)
+read_refused_check None s of_reading big = tt
+read_refused_check (Some l) status.ReadFault of_reading big = tt
+read_refused_check (Some l) status.TooBig of_reading big = big refl
+read_refused_check (Some l) status.NoMemory of_reading big = tt
+read_refused_check (Some l) status.Ok of_reading big = cc
+read_refused_check (Some l) (status.Differs p) of_reading big = cc
+read_refused_check (Some l) status.Usage of_reading big = cc
+read_refused_check (Some l) (status.BadCase f) of_reading big = cc
+read_refused_check (Some l) status.Cut of_reading big = cc
+read_refused_check (Some l) status.WriteFault of_reading big = cc
+
+-- a refusal of reading says nothing of a whole input
+pub not_of_whole : {A : Type 0} (s : Status) → is_of_reading s ≡ true → is_of_whole_input s ≡ true → A
+not_of_whole status.ReadFault of_reading whole = cc
+not_of_whole status.TooBig of_reading whole = cc
+not_of_whole status.NoMemory of_reading whole = cc
+not_of_whole status.Ok of_reading whole = cc
+not_of_whole (status.Differs p) of_reading whole = cc
+not_of_whole status.Usage of_reading whole = cc
+not_of_whole (status.BadCase f) of_reading whole = cc
+not_of_whole status.Cut of_reading whole = cc
+not_of_whole status.WriteFault of_reading whole = cc
+
+-- ---- refusals of the case
+
+pub case_refused_run : (input : List ℕ) (s : Status) (told : Option (List ℕ)) → IsCaseRefusal input s → AnswersRun s input told told
+case_refused_run input (status.BadCase f) told refused = (refused, refl)
+case_refused_run input status.NoMemory told refused = inl refl
+case_refused_run input status.ReadFault told refused = absurd refused
+case_refused_run input status.TooBig told refused = absurd refused
+case_refused_run input status.Ok told refused = absurd refused
+case_refused_run input (status.Differs p) told refused = absurd refused
+case_refused_run input status.Usage told refused = absurd refused
+case_refused_run input status.Cut told refused = absurd refused
+case_refused_run input status.WriteFault told refused = absurd refused
+
+pub case_refused_check : (input : List ℕ) (s : Status) → IsCaseRefusal input s → AnswersCheck s input
+case_refused_check input (status.BadCase f) refused = refused
+case_refused_check input status.NoMemory refused = tt
+case_refused_check input status.ReadFault refused = absurd refused
+case_refused_check input status.TooBig refused = absurd refused
+case_refused_check input status.Ok refused = absurd refused
+case_refused_check input (status.Differs p) refused = absurd refused
+case_refused_check input status.Usage refused = absurd refused
+case_refused_check input status.Cut refused = absurd refused
+case_refused_check input status.WriteFault refused = absurd refused
+
+pub refusal_of_case : (input : List ℕ) (s : Status) → IsCaseRefusal input s → is_of_case s ≡ true
+refusal_of_case input (status.BadCase f) refused = refl
+refusal_of_case input status.NoMemory refused = refl
+refusal_of_case input status.ReadFault refused = absurd refused
+refusal_of_case input status.TooBig refused = absurd refused
+refusal_of_case input status.Ok refused = refl
+refusal_of_case input (status.Differs p) refused = refl
+refusal_of_case input status.Usage refused = absurd refused
+refusal_of_case input status.Cut refused = refl
+refusal_of_case input status.WriteFault refused = refl
+
+-- ---- answers to a case
+
+pub case_run : (input : List ℕ) (c : Recording) (size : ℕ) (s : Status) (old now : Option (List ℕ)) → HasCase input c size → (s ≡ status.Ok → is_cut_case c ≡ false) → (s ≡ status.Cut → is_cut_case c ≡ true) → (s ≡ status.Ok → now ≡ behind old (written c)) → (s ≡ status.Cut → now ≡ behind old (written c)) → PutsFront old now (written c) → is_of_writing s ≡ true → AnswersRun s input old now
+case_run input c size status.Ok old now has ok cut whole whole_cut front only = record { case = c; size = size; has = has; is = ok refl; text = whole refl }
+case_run input c size status.Cut old now has ok cut whole whole_cut front only = record { case = c; size = size; has = has; is = cut refl; text = whole_cut refl }
+case_run input c size status.WriteFault old now has ok cut whole whole_cut front only = record { case = c; size = size; has = has; front = front }
+case_run input c size status.NoMemory old now has ok cut whole whole_cut front only = inr (record { case = c; size = size; has = has; front = front })
+case_run input c size status.ReadFault old now has ok cut whole whole_cut front only = cc
+case_run input c size status.TooBig old now has ok cut whole whole_cut front only = cc
+case_run input c size (status.Differs p) old now has ok cut whole whole_cut front only = cc
+case_run input c size status.Usage old now has ok cut whole whole_cut front only = cc
+case_run input c size (status.BadCase f) old now has ok cut whole whole_cut front only = cc
+
+pub writing_of_case : (s : Status) → is_of_writing s ≡ true → is_of_case s ≡ true
+writing_of_case status.Ok only = refl
+writing_of_case status.Cut only = refl
+writing_of_case status.WriteFault only = refl
+writing_of_case status.NoMemory only = refl
+writing_of_case status.ReadFault only = only
+writing_of_case status.TooBig only = only
+writing_of_case (status.Differs p) only = refl
+writing_of_case status.Usage only = only
+writing_of_case (status.BadCase f) only = refl
+
+pub case_check : (input : List ℕ) (c : Recording) (size : ℕ) (s : Status) → HasCase input c size → (s ≡ status.Ok → drop size input ≡ trace_of c) → (s ≡ status.Ok → is_cut_case c ≡ false) → (s ≡ status.Cut → drop size input ≡ trace_of c) → (s ≡ status.Cut → is_cut_case c ≡ true) → ((place : ℕ) → s ≡ status.Differs place → IsOtherTrace input c size place) → is_of_comparing s ≡ true → AnswersCheck s input
+case_check input c size status.Ok has same ok same_cut cut differs only = record { case = c; size = size; has = has; is = ok refl; same = same refl }
+case_check input c size status.Cut has same ok same_cut cut differs only = record { case = c; size = size; has = has; is = cut refl; same = same_cut refl }
+case_check input c size (status.Differs p) has same ok same_cut cut differs only = record { case = c; size = size; has = has; other = differs p refl }
+case_check input c size status.NoMemory has same ok same_cut cut differs only = tt
+case_check input c size status.ReadFault has same ok same_cut cut differs only = cc
+case_check input c size status.TooBig has same ok same_cut cut differs only = cc
+case_check input c size status.Usage has same ok same_cut cut differs only = cc
+case_check input c size (status.BadCase f) has same ok same_cut cut differs only = cc
+case_check input c size status.WriteFault has same ok same_cut cut differs only = cc
+
+pub comparing_of_case : (s : Status) → is_of_comparing s ≡ true → is_of_case s ≡ true
+comparing_of_case status.Ok only = refl
+comparing_of_case status.Cut only = refl
+comparing_of_case status.WriteFault only = refl
+comparing_of_case status.NoMemory only = refl
+comparing_of_case status.ReadFault only = only
+comparing_of_case status.TooBig only = only
+comparing_of_case (status.Differs p) only = refl
+comparing_of_case status.Usage only = only
+comparing_of_case (status.BadCase f) only = refl
