@@ -7,7 +7,8 @@ use Rattle.std.specs.BinaryHeap.{IsUpperBound}
 use Rattle.std.specs.Ordering.{ordering_then, nat_cmp}
 use Rattle.std.specs.declared.cmp.Ordering.{Ordering}
 use Rattle.std.specs.declared.cmp.Ordering.TheVariants.{Less, Equal, Greater}
-use Rattle.dn_guest.specs.InputOrder.{input_cmp}
+use Rattle.dn_guest.specs.InputOrder.{input_cmp, input_numbers}
+use Rattle.std.specs.Cmp.Lexicographic.{slice_cmp}
 use Rattle.dn_model.proofs.EventOrder.{event_cmp_is}
 use Rattle.dn_model.specs.declared.event.Event.{Event}
 use Rattle.dn_model.specs.Order.{key_cmp, event_cmp, event_total}
@@ -46,3 +47,20 @@ keys_decide x y differ = decide (key_cmp x.key y.key) refl
     decide Less e = e ∙ ap (λ k. ordering_then (ordering_then k (nat_cmp x.router y.router)) (input_cmp x.input y.input)) (sym e) ∙ sym (event_cmp_is x y)
     decide Equal e = absurd (differ e)
     decide Greater e = e ∙ ap (λ k. ordering_then (ordering_then k (nat_cmp x.router y.router)) (input_cmp x.input y.input)) (sym e) ∙ sym (event_cmp_is x y)
+
+then_decides : (r rest : Ordering) → (r ≡ Equal → ⊥) → r ≡ ordering_then r rest
+then_decides Less rest differ = refl
+then_decides Equal rest differ = absurd (differ refl)
+then_decides Greater rest differ = refl
+
+-- where the groups differ, they decide
+pub groups_decide : (x y : Event) → (nat_cmp x.key.group y.key.group ≡ Equal → ⊥) → nat_cmp x.key.group y.key.group ≡ event_cmp x y
+unfolding event_cmp
+groups_decide x y differ = then_decides (nat_cmp x.key.group y.key.group) _ differ
+
+-- in one group the sums decide, where they differ
+pub sums_decide : (x y : Event) → nat_cmp x.key.group y.key.group ≡ Equal → (nat_cmp x.key.sum y.key.sum ≡ Equal → ⊥) → nat_cmp x.key.sum y.key.sum ≡ event_cmp x y
+unfolding event_cmp
+sums_decide x y same differ =
+    let rest : Ordering = ordering_then (nat_cmp x.key.sum y.key.sum) (slice_cmp nat_cmp (x.key.class ∷ x.key.tie ∷ x.key.origin ∷ x.key.seq ∷ x.router ∷ input_numbers x.input) (y.key.class ∷ y.key.tie ∷ y.key.origin ∷ y.key.seq ∷ y.router ∷ input_numbers y.input)) in
+    then_decides (nat_cmp x.key.sum y.key.sum) _ differ ∙ ap (λ r. ordering_then r rest) (sym same)

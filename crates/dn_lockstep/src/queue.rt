@@ -4,6 +4,7 @@ ghost use Rattle.std.specs.Prelude.{◌≡◌, [], ◌∷◌, IfSome, IfOk, IfNo
 ghost use Rattle.std.specs.List.Sorted.{IsPermutation};
 ghost use Rattle.std.specs.Ordering.{as_partial_cmp, eq_by_cmp};
 ghost use Rattle.std.specs.Cmp.{partial_equiv_from_equiv, eq_by_cmp_equiv, partial_order_from_total};
+ghost use Rattle.dn_model.specs.Order.{event_cmp};
 ghost use Rattle.dn_model.specs.Network.{is_at};
 ghost use Rattle.dn_model.specs.SoFar.{by_router};
 ghost use Rattle.dn_lockstep.specs.Running.{messages};
@@ -24,14 +25,11 @@ struct Queued {
 }
 
 impl Queued {
-    /// The reversed order of events. Most often the keys differ, and the inputs are not looked at.
+    /// The reversed order of events.
     fn order(&self, other: &Queued) -> Ordering
         ensures { result ≡ later_cmp self.now other.now }
     {
-        match other.event.key.cmp(&self.event.key) {
-            Ordering::Equal => other.event.cmp(&self.event),
-            decided => decided,
-        }
+        event_order(&other.event, &self.event)
     }
 
     /// Whether the event is a message to the router.
@@ -40,6 +38,29 @@ impl Queued {
         ensures { result ≡ (is_at router self.now.event && (self.now.event.key.class == 2)) }
     {
         self.event.router == router && self.event.key.class == 2
+    }
+}
+
+/// The order of events. Most often the moments differ, and the rest is not looked at.
+fn event_order(one: &Event, other: &Event) -> Ordering
+    ensures { result ≡ event_cmp one.now other.now }
+{
+    match one.key.group.cmp(&other.key.group) {
+        Ordering::Equal => match one.key.sum.cmp(&other.key.sum) {
+            Ordering::Equal => order_at_a_moment(one, other),
+            decided => decided,
+        },
+        decided => decided,
+    }
+}
+
+/// The order of events. Most often the keys differ, and the inputs are not looked at.
+fn order_at_a_moment(one: &Event, other: &Event) -> Ordering
+    ensures { result ≡ event_cmp one.now other.now }
+{
+    match one.key.cmp(&other.key) {
+        Ordering::Equal => one.cmp(other),
+        decided => decided,
     }
 }
 
