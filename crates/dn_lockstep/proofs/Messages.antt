@@ -17,7 +17,7 @@ use Rattle.dn_lists.proofs.Lists.{by_test, all_weaker, all_append, all_filter, f
 use Rattle.dn_lists.proofs.Sorting.{count, count_append, count_none, count_filter, count_permutation, permutation_from_counts}
 use Rattle.dn_model.proofs.EventOrder.{event_same}
 use Rattle.dn_model.proofs.Committed.{emitted_from, injected_injected}
-use Rattle.dn_model.proofs.Steps.{all_joined_below}
+use Rattle.dn_model.proofs.Causes.{all_joined_below}
 use Rattle.dn_lockstep.specs.Agendas.{group_ticks, later_ticks}
 use Rattle.dn_lockstep.specs.declared.queue.Queued.{Queued}
 use Rattle.dn_lockstep.specs.Queues.{queued_events}
@@ -63,7 +63,7 @@ module _ {S : Type 0} (net : Network S) where
   sent_to_messages : (f : Family) (r : ℕ) → AllByRecursion (λ e. is_message e ≡ true) (sent_to net f r)
   unfolding sent_to sent
   sent_to_messages f r =
-      all_joined_below net (λ e. is_message e ≡ true) (routers net) (λ s. filter (is_at r) (sent net s (f s)))
+      all_joined_below (λ e. is_message e ≡ true) (routers net) (λ s. filter (is_at r) (sent net s (f s)))
       (λ s l. all_filter (λ e. is_message e ≡ true) (is_at r) (sent net s (f s)) (sent_from_messages (opening_node net s) (f s)))
 
   injected_no : (n : ℕ) (feed : List External) (r : ℕ) → AllByRecursion (λ e. is_message e ≡ false) (injected n feed r)
