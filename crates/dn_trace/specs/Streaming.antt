@@ -34,12 +34,16 @@ to_come net feed stage.Opening place = codes "trace\n" ++ rows_to_come net feed 
 to_come net feed stage.Rows place = rows_to_come net feed place
 to_come net feed (stage.Ended e) place = []
 
--- a trace that ended is cut exactly where the run has more rows than a trace shows
+-- a trace ends cut exactly where the run has more rows than a trace shows
+abbrev pub EndsAs : {S : Type 0} → Network S → List External → Ending → Type 0
+EndsAs net feed ending.Whole = is_cut net feed ≡ false
+EndsAs net feed ending.Cut = is_cut net feed ≡ true
+
+-- the same of a trace that ended
 abbrev pub EndsRightly : {S : Type 0} → Network S → List External → Stage → Type 0
 EndsRightly net feed stage.Opening = Unit {0}
 EndsRightly net feed stage.Rows = Unit {0}
-EndsRightly net feed (stage.Ended ending.Whole) = is_cut net feed ≡ false
-EndsRightly net feed (stage.Ended ending.Cut) = is_cut net feed ≡ true
+EndsRightly net feed (stage.Ended e) = EndsAs net feed e
 
 -- how many pieces are left at most
 abbrev pub steps_left : Stage → ℕ → ℕ

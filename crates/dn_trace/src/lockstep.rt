@@ -4,9 +4,9 @@ ghost use Rattle.std.specs.Prelude.{◌≡◌, ◌≤◌, length, IfOk, OnOk, Is
 ghost use Rattle.dn_io.specs.Streams.{Rose, behind, PutsFront};
 ghost use Rattle.dn_model.specs.Network.{Network};
 ghost use Rattle.dn_trace.specs.Trace.{trace_text};
-ghost use Rattle.dn_trace.specs.Streaming.{IsRunOf, EndsRightly};
+ghost use Rattle.dn_trace.specs.Streaming.{IsRunOf, EndsAs};
 
-use crate::stream::{Ending, Stage, TraceText};
+use crate::stream::{Ending, TraceText};
 use crate::write::{WriteError, put_text};
 use crate::writer::put_if_full;
 use dn_guest::{Bytes, Guest};
@@ -25,7 +25,7 @@ pub fn write_trace<G: Guest, K: Sink>(
 ) -> Result<Ending, WriteError>
     requires { length guests.items ≡ length case.now.header.routers }
     ensures whole { (net : Network G) → IsRunOf net G.meaning case.now.header guests.items → OnOk result (K.holds sink.new ≡ behind (K.holds sink.old) (trace_text net case.now.feed)) }
-    ensures ending { (net : Network G) → IsRunOf net G.meaning case.now.header guests.items → IfOk result (λ ending. EndsRightly net case.now.feed (Stage.Ended ending)) }
+    ensures ending { (net : Network G) → IsRunOf net G.meaning case.now.header guests.items → IfOk result (EndsAs net case.now.feed) }
     ensures front { (net : Network G) → IsRunOf net G.meaning case.now.header guests.items → PutsFront (K.holds sink.old) (K.holds sink.new) (trace_text net case.now.feed) }
     ensures fault { IsErrOf result WriteError.Fault → Rose (K.faults sink.old) (K.faults sink.new) }
     ensures later { K.faults sink.old ≤ K.faults sink.new }
