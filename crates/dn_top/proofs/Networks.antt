@@ -13,8 +13,7 @@ use Rattle.dn_model.specs.Cases.{Recording}
 use Rattle.dn_case.specs.Spelling.{case_text}
 use Rattle.dn_trace.specs.declared.stream.Ending.{Ending}
 use Rattle.dn_trace.specs.declared.stream.Ending.TheVariants as ending
-use Rattle.dn_trace.specs.declared.stream.Stage.TheVariants as stage
-use Rattle.dn_trace.specs.Streaming.{IsRunOf, EndsRightly}
+use Rattle.dn_trace.specs.Streaming.{IsRunOf, EndsAs}
 use Rattle.dn_top.specs.Promises.{network_of, is_cut_case, is_cut_ending, trace_of, written}
 
 fresh_at : (n r : ℕ) → r < n → slice_get (replicate {A = Bodies} n []) r ≡ Some []
@@ -35,7 +34,7 @@ pub one_each : (h : Heading) (guests : List Bodies) → guests ≡ replicate (le
 one_each h guests fresh = rw fresh (length-replicate (length h.routers) [])
 
 -- how the trace ended tells whether the run is cut
-pub ending_tells : (c : Recording) (e : Ending) → EndsRightly (network_of c.header) c.feed (stage.Ended e) → is_cut_case c ≡ is_cut_ending e
+pub ending_tells : (c : Recording) (e : Ending) → EndsAs (network_of c.header) c.feed e → is_cut_case c ≡ is_cut_ending e
 ending_tells c ending.Whole right = right
 ending_tells c ending.Cut right = right
 

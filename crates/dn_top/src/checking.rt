@@ -6,7 +6,7 @@ ghost use Rattle.dn_top.specs.Promises.{AnswersCheck, IsOtherTrace, trace_of, is
 
 use crate::input::{first_case, read_input};
 use crate::status::Status;
-use crate::written::flooding_guests;
+use crate::written::guests_of;
 use dn_io::Source;
 use dn_model::Case;
 use dn_trace::{Checked, check};
@@ -49,7 +49,8 @@ fn behind(input: &[u8], size: u64) -> &[u8]
 
 /// Compares what stands behind the case with its trace.
 fn compare(alloc: Global, input: &[u8], case: &Case, size: u64) -> Status
-    requires { size ≤ length input.now }
+    requires within { size ≤ length input.now }
+    requires small { length input.now ≤ input_limit }
     ensures same { result ≡ Status.Ok → drop size input.now ≡ trace_of case.now }
     ensures whole { result ≡ Status.Ok → is_cut_case case.now ≡ false }
     ensures same_cut { result ≡ Status.Cut → drop size input.now ≡ trace_of case.now }
@@ -57,16 +58,13 @@ fn compare(alloc: Global, input: &[u8], case: &Case, size: u64) -> Status
     ensures differs { (place : ℕ) → result ≡ Status.Differs place → IsOtherTrace input.now case.now size place }
     ensures only { is_of_comparing result ≡ true }
 {
-    let Ok(guests) = flooding_guests(alloc, case.header.routers.as_slice().len()) else {
+    let Ok(guests) = guests_of(alloc, case) else {
         return Status::NoMemory;
     };
-    let section = behind(input, size);
-    match check(alloc, case, guests, section) {
+    match check(alloc, case, guests, behind(input, size)) {
         Ok(Checked::Equal) => Status::Ok,
         Ok(Checked::Cut) => Status::Cut,
-        Ok(Checked::Differs(place)) => {
-            Status::Differs((input.len() - section.len()) as u64 + place)
-        }
+        Ok(Checked::Differs(place)) => Status::Differs(size + place),
         Err(_) => Status::NoMemory,
     }
 }

@@ -1,9 +1,11 @@
 //! Writing a case and the trace of its lockstep run.
 
-ghost use Rattle.std.specs.Prelude.{◌≡◌, ◌≤◌, true, false, [], replicate, IfOk, OnOk, IsErrOf};
+ghost use Rattle.std.specs.Prelude.{◌≡◌, ◌≤◌, true, false, [], replicate, length, IfOk, OnOk, IsErrOf};
 ghost use Rattle.dn_io.specs.Streams.{Rose, behind, PutsFront};
 ghost use Rattle.dn_case.specs.Spelling.{case_text};
-ghost use Rattle.dn_top.specs.Promises.{written, trace_of, is_cut_case, is_cut_ending, is_of_writing};
+ghost use Rattle.dn_guest.specs.Flood.{flood};
+ghost use Rattle.dn_trace.specs.Streaming.{IsRunOf};
+ghost use Rattle.dn_top.specs.Promises.{network_of, written, trace_of, is_cut_case, is_cut_ending, is_of_writing};
 
 use crate::status::Status;
 use dn_case::write_case;
@@ -73,14 +75,30 @@ fn write_flooding_trace<K: Sink>(
     ensures fault { IsErrOf result WriteError.Fault → Rose (K.faults sink.old) (K.faults sink.new) }
     ensures later { K.faults sink.old ≤ K.faults sink.new }
 {
-    let Ok(guests) = flooding_guests(alloc, case.header.routers.as_slice().len()) else {
+    let Ok(guests) = guests_of(alloc, case) else {
         return Err(WriteError::NoMemory);
     };
     write_trace(alloc, case, guests, sink)
 }
 
+/// The guest of each router of the case, before the first event.
+pub(crate) fn guests_of(alloc: Global, case: &Case) -> Result<Vec<Flood>, NoMemory>
+    ensures one_each { IfOk result (λ guests. length guests.items ≡ length case.now.header.routers) }
+    ensures run { IfOk result (λ guests. IsRunOf (network_of case.now.header) flood case.now.header guests.items) }
+{
+    let guests = flooding_guests(alloc, router_count(case))?;
+    Ok(guests)
+}
+
+/// How many routers the case has.
+fn router_count(case: &Case) -> usize
+    ensures { result ≡ length case.now.header.routers }
+{
+    case.header.routers.as_slice().len()
+}
+
 /// So many flooding guests that have seen nothing.
-pub(crate) fn flooding_guests(alloc: Global, count: usize) -> Result<Vec<Flood>, NoMemory>
+fn flooding_guests(alloc: Global, count: usize) -> Result<Vec<Flood>, NoMemory>
     ensures { IfOk result (λ guests. guests.items ≡ replicate count []) }
 {
     let mut guests = Vec::new(alloc);
