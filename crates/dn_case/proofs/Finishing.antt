@@ -1,5 +1,5 @@
 -- Whatever stands so far can be made a case.
-use Rattle.std.proofs.Common.{◌≡◌, ℕ, true, false, cond, List, [], ◌∷◌, Option, Some, None, Ok, refl, sym, ap, subst, ◌∙◌, codes}
+use Rattle.std.proofs.Common.{◌≡◌, ℕ, List, [], ◌∷◌, Option, Some, Ok, refl, sym, ap, subst, ◌∙◌, codes}
 use Rattle.dn_model.specs.declared.router.Kind.TheVariants as kind
 use Rattle.dn_model.specs.declared.router.RouterDef.{RouterDef}
 use Rattle.dn_text.specs.declared.decimals.Number.TheVariants.{Is}
@@ -7,11 +7,10 @@ use Rattle.dn_text.specs.Decimals.{numeral_of}
 use Rattle.dn_model.specs.Routers.{number_of as router_number}
 use Rattle.dn_text.specs.Lines.{parts}
 use Rattle.dn_case.specs.declared.standing.Standing.{Standing}
-use Rattle.dn_case.specs.declared.cause.Cause.{Cause}
 use Rattle.dn_case.specs.declared.place.Place.{Place}
 use Rattle.dn_case.specs.declared.place.Place.TheVariants as place
-use Rattle.dn_case.specs.Shapes.{Line, Version, Period, Groups, Seed, Router, Link, Prefix, Feed, External, End, kind_of, one_field, two_fields, three_fields, before_newline, line_of}
-use Rattle.dn_case.specs.Standings.{place_of, may_follow, first_of, table, after, verdict, taken, judged, read_line, start}
+use Rattle.dn_case.specs.Shapes.{Line, Version, Period, Groups, Seed, Router, Feed, End, kind_of, one_field, two_fields, three_fields, before_newline, line_of}
+use Rattle.dn_case.specs.Standings.{may_follow, after, judged, start}
 use Rattle.dn_case.specs.Reading.{Leads, case_of, BeginsCaseText}
 use Rattle.dn_case.proofs.Leading.{leads_join}
 use Rattle.dn_case.proofs.Sound.{Sound, leads_sound, start_sound}

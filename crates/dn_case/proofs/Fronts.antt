@@ -1,11 +1,10 @@
 -- The text of a case, line by line, and the round trip.
-use Rattle.std.proofs.Common.{◌≡◌, ℕ, Bool, true, false, not, eqb, List, [], ◌∷◌, ◌++◌, length, take, map, IsTrue, refl, sym, ap, subst, ◌∙◌, arith, append_assoc}
+use Rattle.std.proofs.Common.{◌≡◌, ℕ, Bool, true, false, not, eqb, List, [], ◌∷◌, ◌++◌, length, take, map, refl, sym, ap, subst, ◌∙◌, arith, append_assoc}
 use Rattle.std.specs.List.{flat_map, AllByRecursion, join_with_byte, concat}
 use Rattle.std.proofs.lemmas.List.{take_at}
 use Rattle.dn_model.specs.declared.router.Kind.{Kind}
 use Rattle.dn_model.specs.declared.router.Kind.TheVariants as kind
 use Rattle.dn_model.specs.declared.router.RouterDef.{RouterDef}
-use Rattle.dn_model.specs.Names.{is_name}
 use Rattle.dn_text.specs.Lines.{lines}
 use Rattle.dn_case.specs.declared.shape.Net.{Net}
 use Rattle.dn_model.specs.declared.link.Link.{Link as LinkDef}

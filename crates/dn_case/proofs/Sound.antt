@@ -1,32 +1,29 @@
 -- What stands after lines that were read meets the rules of a case, as far as the lines have come.
-use Rattle.std.proofs.Common.{◌≡◌, ◌≢◌, ℕ, ◌+◌, ◌*◌, ◌≤◌, ◌<◌, ◌^◌, zero, suc, Bool, true, false, not, ◌&&◌, ◌||◌, nat_eq, nat_le, nat_lt, List, [], ◌∷◌, ◌++◌, length, get_or, Option, Some, None, is_some, unwrap_or, Ok, refl, sym, ap, subst, ◌∙◌, append_assoc, arith}
+use Rattle.std.proofs.Common.{◌≡◌, ℕ, ◌*◌, ◌≤◌, ◌<◌, ◌^◌, zero, suc, true, false, not, ◌&&◌, ◌||◌, nat_eq, nat_le, nat_lt, List, [], ◌∷◌, ◌++◌, length, get_or, Option, None, unwrap_or, Ok, refl, sym, ap, subst, ◌∙◌, append_assoc, arith}
 use Rattle.std.specs.Prelude.{slice_get}
 use Rattle.std.specs.List.{AllByRecursion}
 use Rattle.std.specs.Option.{option_map_or}
 use Rattle.std.specs.Cmp.Lexicographic.{pointwise}
 use Rattle.std.proofs.lemmas.List.{append-nil, length-append}
-use Rattle.dn_guest.specs.declared.input.Input.TheVariants as input
 use Rattle.dn_model.specs.declared.router.RouterDef.{RouterDef}
 use Rattle.dn_model.specs.declared.router.Kind.{Kind}
 use Rattle.dn_model.specs.declared.router.Kind.TheVariants as kind
 use Rattle.dn_model.specs.declared.link.Link.{Link as LinkDef}
 use Rattle.dn_model.specs.declared.feed.External.{External as ExternalDef}
 use Rattle.dn_model.specs.Names.{is_name}
-use Rattle.dn_model.specs.Routers.{number_of, name_at}
+use Rattle.dn_model.specs.Routers.{number_of}
 use Rattle.dn_model.specs.Links.{ports_of}
-use Rattle.dn_model.specs.Cases.{Heading, Recording, IsRouter, AreRouters, IsLink, AreLinks, IsHeading, IsAsked, IsExternal, AreExternals, IsRecording}
+use Rattle.dn_model.specs.Cases.{Heading, Recording, IsRouter, AreRouters, IsLink, AreLinks, IsAsked, IsExternal, AreExternals, IsRecording}
 use Rattle.dn_text.specs.declared.decimals.Number.{Number}
-use Rattle.dn_text.specs.declared.decimals.Number.TheVariants.{Is}
-use Rattle.dn_text.specs.Hexadecimals.{unhex, is_hex}
+use Rattle.dn_text.specs.Hexadecimals.{unhex}
 use Rattle.dn_text.proofs.HexadecimalLaws.{of_hex}
 use Rattle.dn_case.specs.declared.shape.Net.{Net}
 use Rattle.dn_case.specs.declared.standing.Standing.{Standing}
 use Rattle.dn_case.specs.declared.place.Place.{Place}
 use Rattle.dn_case.specs.declared.place.Place.TheVariants as place
-use Rattle.dn_case.specs.declared.cause.Cause.{Cause}
 use Rattle.dn_case.specs.declared.cause.Cause.TheVariants as cause
 use Rattle.dn_case.specs.Shapes.{Ask, Cmd, Down, Up, Line, Version, Period, Groups, Seed, Router, Link, Prefix, Feed, External, End}
-use Rattle.dn_case.specs.Standings.{place_of, may_follow, between, below, value, is_known, is_flood, router_is, ports_at, ask_fits, has_host_bits, number_at, input_of, lacks_port, last_group, first_of, table, after, read_line, start}
+use Rattle.dn_case.specs.Standings.{place_of, may_follow, between, below, value, is_known, is_flood, router_is, ports_at, ask_fits, number_at, input_of, lacks_port, last_group, first_of, table, after, read_line, start}
 use Rattle.dn_case.specs.Reading.{Leads, case_of}
 use Rattle.dn_case.proofs.RouterLaws.{nobody, numbered, differ}
 use Rattle.dn_case.proofs.Taken.{is_taken, IsWell, well, free_test, held, both, neither, is_below, is_above, at_most, less, in_range, under, known_is, unknown_is}

@@ -1,5 +1,5 @@
 -- What a line is that was read, and what it says where no cause holds for it.
-use Rattle.std.proofs.Common.{◌≡◌, ◌⊎◌, ℕ, ◌+◌, ◌*◌, ◌≤◌, ◌<◌, ◌^◌, Bool, true, false, cond, not, ◌&&◌, ◌||◌, nat_le, nat_lt, List, [], ◌∷◌, length, Option, Some, None, is_some, unwrap_or, Ok, refl, sym, ap, subst, ◌∙◌, inl, inr, arith, rules, tests, codes}
+use Rattle.std.proofs.Common.{◌≡◌, ◌⊎◌, ℕ, ◌≤◌, ◌<◌, Bool, true, false, cond, not, ◌&&◌, ◌||◌, nat_le, nat_lt, List, [], ◌∷◌, Option, Some, None, is_some, unwrap_or, Ok, refl, subst, inl, inr, rules, tests, codes}
 use Rattle.std.specs.Option.{option_map}
 use Rattle.dn_model.specs.declared.router.Kind.{Kind}
 use Rattle.dn_model.specs.declared.router.Kind.TheVariants as kind
@@ -9,7 +9,6 @@ use Rattle.dn_text.specs.declared.decimals.Number.TheVariants.{Is, Beyond}
 use Rattle.dn_text.specs.Decimals.{numeral_of}
 use Rattle.dn_text.specs.Hexadecimals.{is_hex}
 use Rattle.dn_text.specs.Lines.{parts}
-use Rattle.dn_case.specs.declared.shape.Net.{Net}
 use Rattle.dn_case.specs.declared.standing.Standing.{Standing}
 use Rattle.dn_case.specs.declared.cause.Cause.{Cause}
 use Rattle.dn_case.specs.Shapes.{Ask, Cmd, Down, Up, Line, Version, Period, Groups, Seed, Router, Link, Prefix, Feed, External, End, ◌>>=◌, is_word, name_of, kind_of, net_of, one_field, two_fields, three_fields, four_fields, five_fields, group_of, ask_of, line_of_fields, before_newline, line_of}

@@ -1,5 +1,5 @@
 -- The text of a case, section by section.
-use Rattle.std.proofs.Common.{◌≡◌, ℕ, List, [], ◌∷◌, ◌++◌, map, refl, sym, ap, subst, ◌∙◌, append_assoc}
+use Rattle.std.proofs.Common.{◌≡◌, ℕ, List, [], ◌∷◌, ◌++◌, map, refl, sym, ap, ◌∙◌, append_assoc}
 use Rattle.std.specs.List.{flat_map, AllByRecursion}
 use Rattle.std.proofs.lemmas.List.{append-nil}
 use Rattle.dn_model.specs.declared.router.RouterDef.{RouterDef}
@@ -9,7 +9,7 @@ use Rattle.dn_guest.specs.declared.input.Input.{Input}
 use Rattle.dn_guest.specs.declared.input.Input.TheVariants as input
 use Rattle.dn_model.specs.Cases.{Heading, Recording, AreLinks, IsAsked, AreExternals}
 use Rattle.dn_case.specs.Shapes.{Line, Feed, End}
-use Rattle.dn_case.specs.Spelling.{IsFromOutside, spelled, number_lines, router_line, link_line, prefix_line, prefix_lines, prefixes_text, external_line, header_lines, lines_of, case_text}
+use Rattle.dn_case.specs.Spelling.{IsFromOutside, spelled, number_lines, router_line, link_line, prefix_line, prefix_lines, prefixes_text, external_line, header_lines, case_text}
 use Rattle.std.specs.Prelude.{◌<◌, length, Result, Ok, Err, OnOk}
 
 abbrev flat : List Line → List ℕ

@@ -1,7 +1,6 @@
 -- The spelling of a line: its fields, with one space between them, and a newline.
-use Rattle.std.specs.Prelude.{◌≡◌, Some, false, nat_eq, None, length, ◌≤◌, ℕ, ◌<◌, ◌^◌, ◌/◌, ◌%◌, List, [], ◌∷◌, ◌++◌, map, slice_get, codes, IsTrue}
-use Rattle.std.specs.Option.{option_map_or}
-use Rattle.std.specs.List.{join_with_byte, flat_map, AllByRecursion}
+use Rattle.std.specs.Prelude.{◌≡◌, ℕ, ◌<◌, ◌^◌, ◌/◌, ◌%◌, List, [], ◌∷◌, ◌++◌, map, codes, IsTrue}
+use Rattle.std.specs.List.{join_with_byte, flat_map}
 use Rattle.dn_guest.specs.Hex.{hex}
 use Rattle.dn_guest.specs.declared.input.Input.{Input}
 use Rattle.dn_guest.specs.declared.input.Input.TheVariants as input

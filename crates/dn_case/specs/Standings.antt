@@ -1,5 +1,5 @@
 -- Ask the lines so far say, and the causes that hold for a further line.
-use Rattle.std.specs.Prelude.{ℕ, zero, suc, ◌+◌, ◌-◌, ◌*◌, ◌%◌, ◌^◌, List, [], ◌∷◌, ◌++◌, length, Bool, true, false, ◌&&◌, ◌||◌, not, ◌==◌, nat_eq, nat_le, nat_lt, if◌then◌else◌, Option, Some, None, is_some, unwrap_or, slice_get, position, Result, Ok, Err}
+use Rattle.std.specs.Prelude.{ℕ, zero, suc, ◌+◌, ◌-◌, ◌*◌, ◌%◌, ◌^◌, List, [], ◌∷◌, ◌++◌, length, Bool, true, false, ◌&&◌, ◌||◌, not, ◌==◌, nat_eq, nat_le, nat_lt, if◌then◌else◌, Option, Some, None, is_some, unwrap_or, slice_get, Result, Ok, Err}
 use Rattle.std.specs.List.{list_any}
 use Rattle.std.specs.Option.{option_map_or}
 use Rattle.std.specs.Cmp.Lexicographic.{pointwise}
@@ -9,7 +9,6 @@ use Rattle.dn_model.specs.declared.router.Kind.{Kind}
 use Rattle.dn_model.specs.declared.router.Kind.TheVariants as kind
 use Rattle.dn_model.specs.declared.router.RouterDef.{RouterDef}
 use Rattle.dn_model.specs.declared.router.Prefix.{Prefix}
-use Rattle.dn_model.specs.declared.link.Link.{Link}
 use Rattle.dn_model.specs.declared.feed.External.{External}
 use Rattle.dn_model.specs.Routers.{number_of}
 use Rattle.dn_model.specs.Links.{ports_of}

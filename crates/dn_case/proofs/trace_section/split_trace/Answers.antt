@@ -1,4 +1,4 @@
-use Rattle.std.proofs.Common.{◌≡◌, ◌+◌, ◌-◌, ◌≤◌, ◌<◌, ℕ, List, ◌∷◌, false, length, sym, ap, ◌∙◌, arith, rules}
+use Rattle.std.proofs.Common.{◌≡◌, ◌+◌, false, length, ap, ◌∙◌, arith, rules}
 use Rattle.dn_text.specs.Lines.{lines}
 use Rattle.dn_case.specs.TraceSections.{closes}
 use Rattle.dn_case.proofs.TraceSectionLaws.{close_len, close_later}

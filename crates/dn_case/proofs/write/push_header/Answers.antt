@@ -3,7 +3,7 @@ use Rattle.std.specs.List.{flat_map}
 use Rattle.dn_model.specs.declared.router.RouterDef.{RouterDef}
 use Rattle.dn_model.specs.declared.link.Link.{Link}
 use Rattle.dn_model.specs.Cases.{Heading}
-use Rattle.dn_case.specs.Spelling.{spelled, router_line, link_line, prefixes_text, number_lines}
+use Rattle.dn_case.specs.Spelling.{spelled, router_line, link_line, prefixes_text}
 use Rattle.dn_case.proofs.Texts.{header_text, header_joined, links_inside, on_ok}
 use Rattle.dn_case.proofs.write.push_header.Goals as goal
 

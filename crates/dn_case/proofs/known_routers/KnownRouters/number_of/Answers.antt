@@ -1,4 +1,4 @@
-use Rattle.std.proofs.Common.{◌≡◌, ℕ, List, nat_eq, map, sym, ap, ◌∙◌}
+use Rattle.std.proofs.Common.{ℕ, List, nat_eq, sym, ap, ◌∙◌}
 use Rattle.std.specs.Prelude.{position}
 use Rattle.std.specs.Cmp.Lexicographic.{pointwise}
 use Rattle.dn_model.specs.declared.router.RouterDef.{RouterDef}

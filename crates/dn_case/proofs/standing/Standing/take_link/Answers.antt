@@ -1,4 +1,4 @@
-use Rattle.std.proofs.Common.{◌≡◌, false, nat_eq, sym, ◌∙◌, rules, Some}
+use Rattle.std.proofs.Common.{◌≡◌, false, nat_eq, sym, rules}
 use Rattle.std.specs.Cmp.Lexicographic.{pointwise}
 use Rattle.dn_case.proofs.RouterLaws.{differ}
 use Rattle.dn_case.proofs.standing.Standing.take_link.Goals as goal
