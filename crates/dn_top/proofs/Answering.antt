@@ -5,7 +5,10 @@ use Rattle.dn_io.specs.Streams.{behind, PutsFront}
 use Rattle.dn_model.specs.Cases.{Recording}
 use Rattle.dn_top.specs.declared.status.Status.{Status}
 use Rattle.dn_top.specs.declared.status.Status.TheVariants as status
-use Rattle.dn_top.specs.Promises.{HasCase, HasWritten, HasBegun, HasItsTrace, HasOtherTrace, IsOtherTrace, IsBadCase, IsCaseRefusal, AnswersRun, AnswersCheck, written, trace_of, is_cut_case, input_limit, is_of_reading, is_of_writing, is_of_comparing, is_of_case, is_of_whole_input}
+use Rattle.dn_top.specs.Promises.{HasCase, HasWritten, HasBegun, HasItsTrace, HasOtherTrace, IsOtherTrace, IsBadCase, IsCaseRefusal, AnswersRun, AnswersCheck, written, trace_of, is_cut_case, input_limit, is_of_reading, is_of_writing, is_of_comparing, is_of_case, is_of_command, is_of_check, is_of_whole_input}
+
+absurd_bool : {A : Type 0} → false ≡ true → A
+absurd_bool is = cc
 
 -- what holds of a list holds of what is told, where that is the list
 pub if_told : (told : Option (List ℕ)) (xs : List ℕ) (P : List ℕ → Type 0) → IfSome told (λ l. l ≡ xs) → P xs → IfSome told P
@@ -130,3 +133,83 @@ comparing_of_case status.TooBig only = only
 comparing_of_case (status.Differs p) only = refl
 comparing_of_case status.Usage only = only
 comparing_of_case (status.BadCase f) only = refl
+
+-- ---- answers that a command never gives
+
+pub case_of_command : (s : Status) → is_of_case s ≡ true → is_of_command s ≡ true
+case_of_command status.Ok only = refl
+case_of_command (status.Differs p) only = refl
+case_of_command status.Usage only = only
+case_of_command (status.BadCase f) only = refl
+case_of_command status.Cut only = refl
+case_of_command status.ReadFault only = refl
+case_of_command status.WriteFault only = refl
+case_of_command status.NoMemory only = refl
+case_of_command status.TooBig only = refl
+
+pub reading_of_command : (s : Status) → is_of_reading s ≡ true → is_of_command s ≡ true
+reading_of_command status.Ok only = refl
+reading_of_command (status.Differs p) only = refl
+reading_of_command status.Usage only = only
+reading_of_command (status.BadCase f) only = refl
+reading_of_command status.Cut only = refl
+reading_of_command status.ReadFault only = refl
+reading_of_command status.WriteFault only = refl
+reading_of_command status.NoMemory only = refl
+reading_of_command status.TooBig only = refl
+
+pub check_of_command : (s : Status) → is_of_check s ≡ true → is_of_command s ≡ true
+check_of_command status.Ok only = refl
+check_of_command (status.Differs p) only = refl
+check_of_command status.Usage only = only
+check_of_command (status.BadCase f) only = refl
+check_of_command status.Cut only = refl
+check_of_command status.ReadFault only = refl
+check_of_command status.WriteFault only = refl
+check_of_command status.NoMemory only = refl
+check_of_command status.TooBig only = refl
+
+pub reading_of_check : (s : Status) → is_of_reading s ≡ true → is_of_check s ≡ true
+reading_of_check status.Ok only = refl
+reading_of_check (status.Differs p) only = refl
+reading_of_check status.Usage only = only
+reading_of_check (status.BadCase f) only = refl
+reading_of_check status.Cut only = refl
+reading_of_check status.ReadFault only = refl
+reading_of_check status.WriteFault only = only
+reading_of_check status.NoMemory only = refl
+reading_of_check status.TooBig only = refl
+
+pub comparing_of_check : (s : Status) → is_of_comparing s ≡ true → is_of_check s ≡ true
+comparing_of_check status.Ok only = refl
+comparing_of_check (status.Differs p) only = refl
+comparing_of_check status.Usage only = only
+comparing_of_check (status.BadCase f) only = refl
+comparing_of_check status.Cut only = refl
+comparing_of_check status.ReadFault only = refl
+comparing_of_check status.WriteFault only = only
+comparing_of_check status.NoMemory only = refl
+comparing_of_check status.TooBig only = refl
+
+pub refusal_of_check : (input : List ℕ) (s : Status) → IsCaseRefusal input s → is_of_check s ≡ true
+refusal_of_check input status.Ok refused = refl
+refusal_of_check input (status.Differs p) refused = refl
+refusal_of_check input status.Usage refused = absurd refused
+refusal_of_check input (status.BadCase f) refused = refl
+refusal_of_check input status.Cut refused = refl
+refusal_of_check input status.ReadFault refused = refl
+refusal_of_check input status.WriteFault refused = absurd refused
+refusal_of_check input status.NoMemory refused = refl
+refusal_of_check input status.TooBig refused = refl
+
+pub never_usage : {A : Type 0} (s : Status) → is_of_command s ≡ true → s ≡ status.Usage → A
+never_usage s only is = absurd_bool (subst (λ (t : Status). is_of_command t ≡ true) is only)
+
+pub never_write_fault : {A : Type 0} (s : Status) → is_of_check s ≡ true → s ≡ status.WriteFault → A
+never_write_fault s only is = absurd_bool (subst (λ (t : Status). is_of_check t ≡ true) is only)
+
+pub never_read_fault : {A : Type 0} (s : Status) → is_of_case s ≡ true → s ≡ status.ReadFault → A
+never_read_fault s only is = absurd_bool (subst (λ (t : Status). is_of_case t ≡ true) is only)
+
+pub never_too_big : {A : Type 0} (s : Status) → is_of_case s ≡ true → s ≡ status.TooBig → A
+never_too_big s only is = absurd_bool (subst (λ (t : Status). is_of_case t ≡ true) is only)

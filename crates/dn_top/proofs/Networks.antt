@@ -1,7 +1,7 @@
 -- The network of flooding guests.
-use Rattle.std.proofs.Common.{◌≡◌, ℕ, ◌<◌, List, [], length, replicate, get_or, Some, refl, sym, ap, ◌∙◌, subst, arith}
+use Rattle.std.proofs.Common.{◌≡◌, ℕ, ◌+◌, ◌<◌, ◌≤◌, List, drop, [], length, replicate, get_or, Some, refl, sym, ap, ◌∙◌, subst, arith}
 use Rattle.std.specs.Prelude.{slice_get}
-use Rattle.std.proofs.lemmas.List.{length-replicate, get_or-replicate}
+use Rattle.std.proofs.lemmas.List.{length-drop, length-replicate, get_or-replicate}
 use Rattle.std.proofs.lemmas.Option.{slice_get-get_or}
 use Rattle.dn_guest.specs.Flood.{Bodies, flood}
 use Rattle.dn_model.specs.Cases.{Heading}
@@ -13,8 +13,9 @@ use Rattle.dn_model.specs.Cases.{Recording}
 use Rattle.dn_case.specs.Spelling.{case_text}
 use Rattle.dn_trace.specs.declared.stream.Ending.{Ending}
 use Rattle.dn_trace.specs.declared.stream.Ending.TheVariants as ending
+use Rattle.dn_trace.specs.Differing.{DiffersAt}
 use Rattle.dn_trace.specs.Streaming.{IsRunOf, EndsAs}
-use Rattle.dn_top.specs.Promises.{network_of, is_cut_case, is_cut_ending, trace_of, written}
+use Rattle.dn_top.specs.Promises.{IsOtherTrace, network_of, is_cut_case, is_cut_ending, trace_of, written}
 
 fresh_at : (n r : ℕ) → r < n → slice_get (replicate {A = Bodies} n []) r ≡ Some []
 fresh_at n r l =
@@ -51,3 +52,13 @@ recording_begun c old now front = PutsFront-longer (trace_of c) front
 pub trace_begun : (c : Recording) (old then now : Option (List ℕ)) → then ≡ behind old (case_text c) → PutsFront then now (trace_of c) → PutsFront old now (written c)
 unfolding written
 trace_begun c old then now first front = PutsFront-after (case_text c) first front
+
+-- a place in what stands behind the case is within the input
+pub place_within : (input : List ℕ) (c : Recording) (size place : ℕ) → size ≤ length input → DiffersAt (drop size input) (trace_of c) place → size + place ≤ length input
+place_within input c size place within differs =
+    let inside = differs.within.0 in
+    let long = length-drop size input in
+    omega (arith, inside, long, within)
+
+pub other_trace : (input : List ℕ) (c : Recording) (size place : ℕ) → DiffersAt (drop size input) (trace_of c) place → IsOtherTrace input c size (size + place)
+other_trace input c size place differs = record { behind_case = place; differs = differs; at = refl; }

@@ -127,6 +127,17 @@ is_of_case status.ReadFault = false
 is_of_case status.TooBig = false
 is_of_case _ = true
 
+-- an answer to words that are a command
+abbrev pub is_of_command : Status → Bool
+is_of_command status.Usage = false
+is_of_command _ = true
+
+-- an answer of `check`, which writes nothing
+abbrev pub is_of_check : Status → Bool
+is_of_check status.Usage = false
+is_of_check status.WriteFault = false
+is_of_check _ = true
+
 -- an answer for which the source was read to its end
 abbrev pub is_of_whole_input : Status → Bool
 is_of_whole_input status.Ok = true

@@ -2,7 +2,7 @@
 
 ghost use Rattle.std.specs.Prelude.{◌≡◌, ◌≢◌, ◌<◌, ◌≤◌, ℕ, [], true, false, length, drop, IfSome};
 ghost use Rattle.dn_io.specs.Streams.{Rose, Gives};
-ghost use Rattle.dn_top.specs.Promises.{AnswersCheck, IsOtherTrace, trace_of, is_cut_case, input_limit, is_of_whole_input, is_of_case, is_of_comparing};
+ghost use Rattle.dn_top.specs.Promises.{AnswersCheck, IsOtherTrace, trace_of, is_cut_case, input_limit, is_of_whole_input, is_of_case, is_of_check, is_of_comparing};
 
 use crate::input::{first_case, read_input};
 use crate::status::Status;
@@ -15,6 +15,7 @@ use std::alloc::Global;
 /// Reads a case and what stands behind it, and compares that with the trace of the case's lockstep run.
 pub(crate) fn check_trace<S: Source>(alloc: Global, source: &mut S) -> Status
     ensures answers { IfSome (S.left source.old) (λ input. AnswersCheck result input) }
+    ensures only { is_of_check result ≡ true }
     ensures read { is_of_whole_input result ≡ true → IfSome (S.left source.new) (λ left. left ≡ []) }
     ensures read_fault { result ≡ Status.ReadFault → Rose (S.faults source.old) (S.faults source.new) }
     ensures too_big { result ≡ Status.TooBig → Gives (S.left source.old) (S.left source.new) (λ came. input_limit < length came) }
@@ -32,6 +33,7 @@ fn check_input(alloc: Global, input: &[u8]) -> Status
     requires { length input.now ≤ input_limit }
     ensures answers { AnswersCheck result input.now }
     ensures only { is_of_case result ≡ true }
+    ensures unwritten { is_of_check result ≡ true }
 {
     match first_case(alloc, input) {
         Ok((case, size)) => compare(alloc, input, &case, size),

@@ -2,7 +2,7 @@
 
 ghost use Rattle.std.specs.Prelude.{◌≡◌, ◌≢◌, ◌<◌, ◌≤◌, [], true, length, IfSome};
 ghost use Rattle.dn_io.specs.Streams.{Rose, Gives};
-ghost use Rattle.dn_top.specs.Promises.{AnswersRun, input_limit, is_of_whole_input, is_of_case};
+ghost use Rattle.dn_top.specs.Promises.{AnswersRun, input_limit, is_of_whole_input, is_of_case, is_of_command};
 
 use crate::input::{first_case, read_input};
 use crate::status::Status;
@@ -17,6 +17,7 @@ pub(crate) fn run_lockstep<S: Source, K: Sink>(
     sink: &mut K,
 ) -> Status
     ensures answers { IfSome (S.left source.old) (λ input. AnswersRun result input (K.holds sink.old) (K.holds sink.new)) }
+    ensures only { is_of_command result ≡ true }
     ensures read { is_of_whole_input result ≡ true → IfSome (S.left source.new) (λ left. left ≡ []) }
     ensures read_fault { result ≡ Status.ReadFault → Rose (S.faults source.old) (S.faults source.new) }
     ensures write_fault { result ≡ Status.WriteFault → Rose (K.faults sink.old) (K.faults sink.new) }
