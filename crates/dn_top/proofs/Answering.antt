@@ -1,11 +1,11 @@
 -- What a command answers, from its parts.
-use Rattle.std.proofs.Common.{◌≡◌, ◌≢◌, ℕ, ◌+◌, ◌<◌, ◌≤◌, ◌⊎◌, inl, inr, Bool, true, false, List, [], ◌++◌, length, drop, Option, Some, None, refl, sym, ap, ◌∙◌, subst, arith}
+use Rattle.std.proofs.Common.{◌≡◌, ℕ, ◌<◌, inl, inr, true, false, List, length, drop, Option, Some, None, refl, sym, subst}
 use Rattle.std.specs.Prelude.{IfSome}
 use Rattle.dn_io.specs.Streams.{behind, PutsFront}
 use Rattle.dn_model.specs.Cases.{Recording}
 use Rattle.dn_top.specs.declared.status.Status.{Status}
 use Rattle.dn_top.specs.declared.status.Status.TheVariants as status
-use Rattle.dn_top.specs.Promises.{HasCase, HasWritten, HasBegun, HasItsTrace, HasOtherTrace, IsOtherTrace, IsBadCase, IsCaseRefusal, AnswersRun, AnswersCheck, written, trace_of, is_cut_case, input_limit, is_of_reading, is_of_writing, is_of_comparing, is_of_case, is_of_command, is_of_check, is_of_whole_input}
+use Rattle.dn_top.specs.Promises.{HasCase, IsOtherTrace, IsCaseRefusal, AnswersRun, AnswersCheck, written, trace_of, is_cut_case, input_limit, is_of_reading, is_of_writing, is_of_comparing, is_of_case, is_of_command, is_of_check, is_of_whole_input}
 
 absurd_bool : {A : Type 0} → false ≡ true → A
 absurd_bool is = cc

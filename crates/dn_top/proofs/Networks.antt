@@ -1,12 +1,12 @@
 -- The network of flooding guests.
-use Rattle.std.proofs.Common.{◌≡◌, ℕ, ◌+◌, ◌<◌, ◌≤◌, List, drop, [], length, replicate, get_or, Some, refl, sym, ap, ◌∙◌, subst, arith}
+use Rattle.std.proofs.Common.{◌≡◌, ℕ, ◌+◌, ◌<◌, ◌≤◌, List, drop, [], length, replicate, Some, refl, ap, ◌∙◌, arith}
 use Rattle.std.specs.Prelude.{slice_get}
 use Rattle.std.proofs.lemmas.List.{length-drop, length-replicate, get_or-replicate}
 use Rattle.std.proofs.lemmas.Option.{slice_get-get_or}
 use Rattle.dn_guest.specs.Flood.{Bodies, flood}
 use Rattle.dn_model.specs.Cases.{Heading}
-use Rattle.dn_model.specs.Network.{Network, routers}
-use Rattle.std.proofs.Common.{Option, ◌++◌}
+use Rattle.dn_model.specs.Network.{routers}
+use Rattle.std.proofs.Common.{Option}
 use Rattle.dn_io.specs.Streams.{behind, PutsFront}
 use Rattle.dn_io.proofs.StreamLaws.{behind-behind, PutsFront-longer, PutsFront-after}
 use Rattle.dn_model.specs.Cases.{Recording}

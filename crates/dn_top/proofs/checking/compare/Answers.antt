@@ -1,7 +1,5 @@
-use Rattle.std.proofs.Common.{rules, ◌≡◌, ◌+◌, ◌≤◌, ℕ, length, drop, Fits, w64, arith, subst}
+use Rattle.std.proofs.Common.{ℕ, drop, arith, subst}
 use Rattle.dn_trace.specs.Differing.{DiffersAt}
-use Rattle.dn_top.specs.declared.status.Status.{Status}
-use Rattle.dn_top.specs.declared.status.Status.TheVariants as status
 use Rattle.dn_top.specs.Promises.{IsOtherTrace, network_of, trace_of}
 use Rattle.dn_top.proofs.Networks.{place_within, other_trace}
 use Rattle.dn_top.proofs.checking.compare.Goals as goal

@@ -1,4 +1,4 @@
-use Rattle.std.proofs.Common.{◌≡◌, [], length, replicate, sym, ap, ◌∙◌}
+use Rattle.std.proofs.Common.{◌≡◌, [], length, replicate}
 use Rattle.dn_guest.specs.Flood.{Bodies}
 use Rattle.dn_top.proofs.Networks.{flooding_run, one_each}
 use Rattle.dn_top.proofs.written.guests_of.Goals as goal

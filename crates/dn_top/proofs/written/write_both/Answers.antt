@@ -1,4 +1,4 @@
-use Rattle.std.proofs.Common.{rules, ◌≡◌}
+use Rattle.std.proofs.Common.{rules}
 use Rattle.dn_top.proofs.Networks.{both_written, recording_begun, trace_begun}
 use Rattle.dn_top.proofs.written.write_both.Goals as goal
 

@@ -1,4 +1,4 @@
-use Rattle.std.proofs.Common.{rules, ◌≡◌}
+use Rattle.std.proofs.Common.{rules}
 use Rattle.dn_top.specs.Promises.{network_of}
 use Rattle.dn_top.proofs.Networks.{ending_tells}
 use Rattle.dn_top.proofs.written.write_flooding_trace.Goals as goal
