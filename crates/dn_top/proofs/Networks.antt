@@ -26,10 +26,10 @@ fresh_at n r l =
 pub flooding_run : (h : Heading) (guests : List Bodies) → guests ≡ replicate (length h.routers) [] → IsRunOf (network_of h) flood h guests
 unfolding routers
 flooding_run h guests fresh = record {
-    of_header = refl;
-    of_guest = refl;
-    openings = λ r l. rw fresh (fresh_at (length h.routers) r l);
-  }
+  of_header = refl;
+  of_guest = refl;
+  openings = λ r l. rw fresh (fresh_at (length h.routers) r l);
+}
 
 pub one_each : (h : Heading) (guests : List Bodies) → guests ≡ replicate (length h.routers) [] → length guests ≡ length h.routers
 one_each h guests fresh = rw fresh (length-replicate (length h.routers) [])
@@ -61,4 +61,4 @@ place_within input c size place within differs =
     omega (arith, inside, long, within)
 
 pub other_trace : (input : List ℕ) (c : Recording) (size place : ℕ) → DiffersAt (drop size input) (trace_of c) place → IsOtherTrace input c size (size + place)
-other_trace input c size place differs = record { behind_case = place; differs = differs; at = refl; }
+other_trace input c size place differs = record { behind_case = place; differs = differs; at = refl }

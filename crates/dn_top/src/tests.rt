@@ -291,7 +291,14 @@ fn run_writes_the_recording_and_the_trace(rt: HostRuntime) -> Result<(), Fail> {
 #[test]
 fn a_read_fault_writes_nothing(rt: HostRuntime) -> Result<(), Fail> {
     let second = Vec::from_array(rt.alloc(), [1])?;
-    let (status, sink) = outcome(rt.alloc(), "run", TWO_ROUTERS, 40, second, Vec::new(rt.alloc()))?;
+    let (status, sink) = outcome(
+        rt.alloc(),
+        "run",
+        TWO_ROUTERS,
+        40,
+        second,
+        Vec::new(rt.alloc()),
+    )?;
     assert_eq!(rt; status_number(&status), 5);
     assert!(rt; sink.as_slice().is_empty());
     Ok(())
@@ -300,7 +307,14 @@ fn a_read_fault_writes_nothing(rt: HostRuntime) -> Result<(), Fail> {
 #[test]
 fn a_write_fault_leaves_a_front(rt: HostRuntime) -> Result<(), Fail> {
     let third = Vec::from_array(rt.alloc(), [2])?;
-    let (status, sink) = outcome(rt.alloc(), "run", TWO_ROUTERS, 40, Vec::new(rt.alloc()), third)?;
+    let (status, sink) = outcome(
+        rt.alloc(),
+        "run",
+        TWO_ROUTERS,
+        40,
+        Vec::new(rt.alloc()),
+        third,
+    )?;
     assert_eq!(rt; status_number(&status), 6);
     assert_eq!(rt; sink.as_slice().len(), 80);
     assert!(rt; TWO_ROUTERS.starts_with(sink.as_slice()));

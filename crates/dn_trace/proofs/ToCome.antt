@@ -1,9 +1,7 @@
 -- The rows that are still to come.
-use Rattle.std.proofs.Common.{◌≡◌, ◌≢◌, ℕ, zero, suc, ◌+◌, ◌<◌, ◌≤◌, Bool, true, false, cond, List, [], ◌∷◌, ◌++◌, length, take, drop, Option, Some, None, refl, sym, ap, ◌∙◌, subst, append_assoc, arith, add-one}
-use Rattle.std.specs.Prelude.{slice_get, nat_lt, if◌then◌else◌}
-use Rattle.std.specs.List.{flat_map}
-use Rattle.std.proofs.lemmas.List.{drop_all, length-take-le, take_all}
-use Rattle.std.proofs.lemmas.Bool.{lt-ltb, ltb-false}
+use Rattle.std.proofs.Common.{◌≡◌, ◌≢◌, ℕ, zero, suc, ◌+◌, ◌<◌, ◌≤◌, true, false, List, [], ◌∷◌, ◌++◌, length, take, drop, Some, refl, ap, arith}
+use Rattle.std.specs.Prelude.{slice_get, nat_lt}
+use Rattle.std.proofs.lemmas.Bool.{lt-ltb}
 use Rattle.dn_model.specs.declared.router.RouterDef.{RouterDef}
 use Rattle.dn_model.specs.declared.event.Event.{Event}
 use Rattle.dn_trace.specs.Rows.{row_line, row_lines}

@@ -1,17 +1,16 @@
 -- A trace that is written or compared piece by piece.
-use Rattle.std.proofs.Common.{◌≡◌, ◌≢◌, ℕ, zero, suc, ◌+◌, ◌<◌, ◌≤◌, Bool, true, false, List, [], ◌∷◌, ◌++◌, length, take, drop, get_or, Option, Some, None, refl, sym, ap, ◌∙◌, subst, append_assoc, append-nil, arith}
+use Rattle.std.proofs.Common.{◌≡◌, ◌≢◌, ℕ, zero, suc, ◌+◌, ◌<◌, ◌≤◌, true, false, List, [], ◌∷◌, ◌++◌, length, take, drop, get_or, Option, Some, None, refl, sym, ap, ◌∙◌, subst, append_assoc, append-nil, arith}
 use Rattle.std.specs.Prelude.{slice_get, nat_lt}
 use Rattle.std.proofs.lemmas.Bool.{ltb-true, ltb-false}
-use Rattle.std.proofs.lemmas.List.{take_all, take_at, take-append-le, length-append, length-take-le, length-drop}
+use Rattle.std.proofs.lemmas.List.{take_all, take-append-le, length-append, length-take-le, length-drop}
 use Rattle.std.proofs.lemmas.Option.{slice_get_past, slice_get-get_or}
 use Rattle.std.proofs.Math.Seq.{take-add}
 use Rattle.dn_io.specs.Streams.{behind, PutsFront, PutsOrKeeps}
-use Rattle.dn_io.proofs.StreamLaws.{PutsFront-longer, PutsOrKeeps-flush, PutsOrKeeps-front, PutsOrKeeps-all}
+use Rattle.dn_io.proofs.StreamLaws.{PutsFront-longer, PutsOrKeeps-flush}
 use Rattle.dn_lists.proofs.Lists.{by_test}
 use Rattle.dn_model.specs.declared.feed.External.{External}
 use Rattle.dn_model.specs.Network.{Network}
 use Rattle.dn_model.specs.Settled.{is_cut}
-use Rattle.dn_trace.specs.declared.compare.Checked.{Checked}
 use Rattle.dn_trace.specs.declared.compare.Checked.TheVariants as checked
 use Rattle.dn_trace.specs.declared.stream.Ending.{Ending}
 use Rattle.dn_trace.specs.declared.stream.Ending.TheVariants as ending

@@ -1,11 +1,10 @@
 -- The text of a trace on its way.
-use Rattle.std.specs.Prelude.{◌≡◌, ℕ, ◌+◌, ◌-◌, ◌<◌, Bool, true, false, nat_lt, if◌then◌else◌, zero, suc, Option, Some, None, List, [], ◌++◌, length, drop, slice_get, codes}
+use Rattle.std.specs.Prelude.{◌≡◌, ℕ, ◌+◌, ◌-◌, ◌<◌, true, false, nat_lt, if◌then◌else◌, zero, suc, Option, Some, None, List, [], ◌++◌, length, drop, slice_get, codes}
 use Rattle.dn_guest.specs.Meaning.{Meaning}
 use Rattle.dn_model.specs.declared.feed.External.{External}
 use Rattle.dn_model.specs.Cases.{Heading}
 use Rattle.dn_model.specs.Network.{Network, routers}
 use Rattle.dn_model.specs.Settled.{shown_rows, row_limit, is_cut}
-use Rattle.dn_lockstep.specs.Running.{Running, StandsIn}
 use Rattle.dn_trace.specs.declared.stream.Ending.{Ending}
 use Rattle.dn_trace.specs.declared.stream.Ending.TheVariants as ending
 use Rattle.dn_trace.specs.declared.compare.Checked.{Checked}

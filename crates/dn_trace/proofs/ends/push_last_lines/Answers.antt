@@ -1,9 +1,4 @@
-use Rattle.std.proofs.Common.{◌≡◌, ℕ, List, ◌++◌, length, sym, ap, ◌∙◌, append_assoc}
-use Rattle.dn_guest.specs.Meaning.{Meaning}
-use Rattle.dn_model.specs.declared.router.RouterDef.{RouterDef}
-use Rattle.dn_model.specs.declared.feed.External.{External}
-use Rattle.dn_model.specs.Network.{Network}
-use Rattle.dn_lockstep.specs.Running.{Running, IsAtEnd}
+use Rattle.std.proofs.Common.{◌≡◌, ℕ, List, ◌++◌, length, ap, ◌∙◌, append_assoc}
 use Rattle.dn_trace.specs.Trace.{end_line, last_lines}
 use Rattle.dn_trace.specs.Streaming.{node_lines}
 use Rattle.dn_trace.proofs.Streams.{last_lines_are}

@@ -1,4 +1,4 @@
-use Rattle.std.proofs.Common.{◌≡◌, ◌≤◌, sym, ap, ◌∙◌, arith}
+use Rattle.std.proofs.Common.{sym, ◌∙◌, arith}
 use Rattle.dn_io.proofs.StreamLaws.{PutsOrKeeps-front}
 use Rattle.dn_trace.proofs.Whole.{opens_rightly, none_written, front_of_gathered, handed_over, gathered, all_written, ended_rightly}
 use Rattle.dn_trace.proofs.lockstep.write_trace.Goals as goal

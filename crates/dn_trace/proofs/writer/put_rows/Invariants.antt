@@ -1,4 +1,4 @@
-use Rattle.std.proofs.Common.{◌≡◌, ◌≤◌, ◌++◌, take}
+use Rattle.std.proofs.Common.{◌≤◌, ◌++◌, take}
 use Rattle.dn_io.specs.Streams.{PutsOrKeeps}
 use Rattle.dn_trace.specs.Rows.{row_lines}
 use Rattle.dn_trace.proofs.writer.put_rows.Given as goal

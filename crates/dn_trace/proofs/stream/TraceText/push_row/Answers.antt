@@ -1,10 +1,9 @@
-use Rattle.std.proofs.Common.{◌≡◌, ◌≢◌, ℕ, ◌+◌, ◌<◌, ◌≤◌, false, true, List, [], ◌++◌, length, sym, ap, ◌∙◌, append-nil, arith}
+use Rattle.std.proofs.Common.{◌≡◌, ℕ, ◌≤◌, List, ◌++◌, sym, ap, ◌∙◌, append-nil, arith}
 use Rattle.dn_model.specs.declared.router.RouterDef.{RouterDef}
-use Rattle.dn_model.specs.Settled.{rows, row_limit, is_cut}
+use Rattle.dn_model.specs.Settled.{rows, row_limit}
 use Rattle.dn_lockstep.specs.declared.engine.Next.TheVariants.{Cut}
-use Rattle.dn_lockstep.specs.Answers.{answer_after, HasMoved}
-use Rattle.dn_lockstep.specs.Running.{Running, StandsIn, IsAtEnd}
-use Rattle.dn_trace.specs.Trace.{cut_line, last_lines}
+use Rattle.dn_lockstep.specs.Answers.{answer_after}
+use Rattle.dn_trace.specs.Trace.{last_lines}
 use Rattle.dn_trace.specs.Streaming.{rows_to_come, line_of_last, to_come}
 use Rattle.dn_trace.proofs.Streams.{row_text, whole_text, cut_answer, cut_text}
 use Rattle.dn_trace.proofs.stream.TraceText.push_row.Goals as goal
