@@ -2,8 +2,8 @@
 
 ghost use Rattle.std.specs.Prelude.{◌≤◌};
 
-use crate::{Status, defined_top, status_line, status_number};
-use dn_guest::NoMemory;
+use crate::{Status, defined_plain, defined_top, status_line, status_number};
+use dn_guest::{Bytes, NoMemory};
 use dn_io::{MemSink, MemSource};
 use std::alloc::Global;
 use std::test::Fail;
@@ -244,11 +244,70 @@ const COMMAND_TWICE_TRACE: &[u8] = b"\
     end trace 11\n\
 ";
 
+/// The case of two routers, and behind it a trace of one wrong digit: place 179 has `1` where the trace has `0`.
+const TWO_ROUTERS_WRONG: &[u8] = b"\
+    defined 1\n\
+    period 100\n\
+    groups 4\n\
+    seed 0\n\
+    router a flood\n\
+    router b flood\n\
+    link a b 10 1\n\
+    feed\n\
+    @0 a cmd 41\n\
+    @2 a down 0\n\
+    end\n\
+    trace\n\
+    0 0 t 0000000000000000 0 0 a tick\n\
+    0 0 t 0000000000000000 1 1 b tick\n\
+";
+
+/// Inputs that begin with no case, and the line that each is answered with.
+const BAD_CASES: [(&[u8], &[u8]); 10] = [
+    (b"", b"defined: line 1: ended\n"),
+    (b"defined 1", b"defined: line 1: syntax\n"),
+    (b"defined 2\n", b"defined: line 1: version\n"),
+    (b"defined 1\nperiod 0\n", b"defined: line 2: range\n"),
+    (
+        b"defined 1\nperiod 1\ngroups 1\nseed 0\nrouter a flood\nlink a b 1 1\n",
+        b"defined: line 6: name\n",
+    ),
+    (
+        b"defined 1\nperiod 1\ngroups 1\nseed 0\nrouter a flood\nlink a a 1 1\n",
+        b"defined: line 6: same\n",
+    ),
+    (
+        b"defined 1\nperiod 1\ngroups 1\nseed 0\nrouter a flood\nrouter a flood\n",
+        b"defined: line 6: twice\n",
+    ),
+    (
+        b"defined 1\nperiod 1\ngroups 2\nseed 0\nrouter a flood\nfeed\n@1 a cmd 41\n@0 a cmd 41\n",
+        b"defined: line 8: order\n",
+    ),
+    (
+        b"defined 1\nperiod 1\ngroups 1\nseed 0\nrouter a flood\nfeed\n@0 a down 0\n",
+        b"defined: line 7: port\n",
+    ),
+    (
+        b"defined 1\nperiod 1\ngroups 1\nseed 0\nrouter a flood\nfeed\n",
+        b"defined: line 7: ended\n",
+    ),
+];
+
+/// Words of a command.
+fn words_of(alloc: Global, words: &[&str]) -> Result<Vec<String>, NoMemory> {
+    let mut all = Vec::new(alloc);
+    for word in words {
+        all.push(String::from_str(alloc, word)?)?;
+    }
+    Ok(all)
+}
+
 /// The status of a command on an input, and what it wrote. Source and sink move `piece` bytes at a call;
 /// the reads and writes of these numbers fail.
 fn outcome(
     alloc: Global,
-    word: &str,
+    words: &[&str],
     input: &[u8],
     piece: u64,
     reads: Vec<u64>,
@@ -256,17 +315,46 @@ fn outcome(
 ) -> Result<(Status, MemSink), NoMemory>
     requires { 1 ≤ piece }
 {
-    let mut words = Vec::new(alloc);
-    words.push(String::from_str(alloc, word)?)?;
+    let words = words_of(alloc, words)?;
     let mut source = MemSource::new(Vec::from_slice(alloc, input)?, reads, piece);
-    let mut sink = MemSink::new(alloc, writes, piece, 4096)?;
+    let mut sink = MemSink::new(alloc, writes, piece, 16_777_216)?;
     let status = defined_top(alloc, words.as_slice(), &mut source, &mut sink);
     Ok((status, sink))
 }
 
 /// The same with no fault, in large pieces.
-fn plain_outcome(alloc: Global, word: &str, input: &[u8]) -> Result<(Status, MemSink), NoMemory> {
-    outcome(alloc, word, input, 4096, Vec::new(alloc), Vec::new(alloc))
+fn plain_outcome(
+    alloc: Global,
+    words: &[&str],
+    input: &[u8],
+) -> Result<(Status, MemSink), NoMemory> {
+    outcome(alloc, words, input, 4096, Vec::new(alloc), Vec::new(alloc))
+}
+
+/// A case text and a trace behind it.
+fn joined(alloc: Global, case: &[u8], trace: &[u8]) -> Result<Bytes, NoMemory> {
+    let mut both = Bytes::new(alloc);
+    both.append(case)?;
+    both.append(trace)?;
+    Ok(both)
+}
+
+/// A case of 64 routers without links and 3,125 groups, whose run has 200,000 rows; `feed` is its feed.
+fn many_rows(alloc: Global, feed: &[u8]) -> Result<Bytes, NoMemory> {
+    let mut text = Bytes::new(alloc);
+    text.append(b"defined 1\nperiod 1\ngroups 3125\nseed 0\n")?;
+    for tens in [b"a", b"b", b"c", b"d", b"e", b"f", b"g", b"h"] {
+        for ones in [b"0", b"1", b"2", b"3", b"4", b"5", b"6", b"7"] {
+            text.append(b"router ")?;
+            text.append(tens)?;
+            text.append(ones)?;
+            text.append(b" flood\n")?;
+        }
+    }
+    text.append(b"feed\n")?;
+    text.append(feed)?;
+    text.append(b"end\n")?;
+    Ok(text)
 }
 
 #[test]
@@ -281,7 +369,7 @@ fn run_writes_the_recording_and_the_trace(rt: HostRuntime) -> Result<(), Fail> {
         (PORT_DOWN, PORT_DOWN_TRACE),
         (COMMAND_TWICE, COMMAND_TWICE_TRACE),
     ] {
-        let (status, sink) = plain_outcome(rt.alloc(), "run", case)?;
+        let (status, sink) = plain_outcome(rt.alloc(), &["run"], case)?;
         assert_eq!(rt; status_number(&status), 0);
         assert_eq!(rt; sink.as_slice().strip_prefix(case), Some(trace));
     }
@@ -289,17 +377,135 @@ fn run_writes_the_recording_and_the_trace(rt: HostRuntime) -> Result<(), Fail> {
 }
 
 #[test]
+fn lockstep_writes_what_run_writes(rt: HostRuntime) -> Result<(), Fail> {
+    for (case, trace) in [
+        (TWO_ROUTERS, TWO_ROUTERS_TRACE),
+        (CONTEST_SEED_7, CONTEST_SEED_7_TRACE),
+    ] {
+        let both = joined(rt.alloc(), case, trace)?;
+        let (status, sink) = plain_outcome(rt.alloc(), &["lockstep"], case)?;
+        assert_eq!(rt; status_number(&status), 0);
+        assert_eq!(rt; sink.as_slice(), both.as_slice());
+        let (again, copy) = plain_outcome(rt.alloc(), &["lockstep"], both.as_slice())?;
+        assert_eq!(rt; status_number(&again), 0);
+        assert_eq!(rt; copy.as_slice(), both.as_slice());
+    }
+    Ok(())
+}
+
+#[test]
+fn small_pieces_change_nothing(rt: HostRuntime) -> Result<(), Fail> {
+    let both = joined(rt.alloc(), TWO_ROUTERS, TWO_ROUTERS_TRACE)?;
+    for piece in [1, 7] {
+        let none = Vec::new(rt.alloc());
+        let (status, sink) = outcome(
+            rt.alloc(),
+            &["run"],
+            TWO_ROUTERS,
+            piece,
+            none,
+            Vec::new(rt.alloc()),
+        )?;
+        assert_eq!(rt; status_number(&status), 0);
+        assert_eq!(rt; sink.as_slice(), both.as_slice());
+    }
+    Ok(())
+}
+
+#[test]
+fn check_tells_where_a_trace_differs(rt: HostRuntime) -> Result<(), Fail> {
+    let right = joined(rt.alloc(), TWO_ROUTERS, TWO_ROUTERS_TRACE)?;
+    let more = joined(rt.alloc(), right.as_slice(), b"\n")?;
+    for (input, line) in [
+        (right.as_slice(), &b""[..]),
+        (more.as_slice(), &b"defined: differs at 564\n"[..]),
+        (TWO_ROUTERS, &b"defined: differs at 114\n"[..]),
+        (TWO_ROUTERS_WRONG, &b"defined: differs at 179\n"[..]),
+    ] {
+        let (status, sink) = plain_outcome(rt.alloc(), &["check"], input)?;
+        assert_eq!(rt; status_line(rt.alloc(), &status)?.as_slice(), line);
+        assert!(rt; sink.as_slice().is_empty());
+    }
+    Ok(())
+}
+
+#[test]
+fn other_words_are_no_command(rt: HostRuntime) -> Result<(), Fail> {
+    for words in [&[][..], &["walk"][..], &["run", "run"][..]] {
+        let (status, sink) = plain_outcome(rt.alloc(), words, TWO_ROUTERS)?;
+        assert_eq!(rt; status_number(&status), 2);
+        assert_eq!(rt;
+            status_line(rt.alloc(), &status)?.as_slice(),
+            b"defined: usage\n".as_slice()
+        );
+        assert!(rt; sink.as_slice().is_empty());
+    }
+    Ok(())
+}
+
+#[test]
+fn run_waits_and_is_no_plain_command(rt: HostRuntime) -> Result<(), Fail> {
+    for (word, number) in [("run", 2), ("lockstep", 0), ("check", 1)] {
+        let words = words_of(rt.alloc(), &[word])?;
+        let input = Vec::from_slice(rt.alloc(), TWO_ROUTERS)?;
+        let mut source = MemSource::new(input, Vec::new(rt.alloc()), 4096);
+        let mut sink = MemSink::new(rt.alloc(), Vec::new(rt.alloc()), 4096, 4096)?;
+        let status = defined_plain(rt.alloc(), words.as_slice(), &mut source, &mut sink);
+        assert_eq!(rt; status_number(&status), number);
+    }
+    Ok(())
+}
+
+#[test]
+fn a_bad_case_is_told_by_its_first_bad_line(rt: HostRuntime) -> Result<(), Fail> {
+    for (input, line) in BAD_CASES {
+        for word in ["run", "check"] {
+            let (status, sink) = plain_outcome(rt.alloc(), &[word], input)?;
+            assert_eq!(rt; status_number(&status), 3);
+            assert_eq!(rt; status_line(rt.alloc(), &status)?.as_slice(), line);
+            assert!(rt; sink.as_slice().is_empty());
+        }
+    }
+    Ok(())
+}
+
+#[test]
+fn a_trace_has_at_most_200000_rows(rt: HostRuntime) -> Result<(), Fail> {
+    for (feed, number, last) in [
+        (&b""[..], 0, &b"\nend trace 200000\n"[..]),
+        (&b"@7 a0 cmd 41\n"[..], 4, &b"\ncut 200000\n"[..]),
+    ] {
+        let case = many_rows(rt.alloc(), feed)?;
+        let (status, sink) = plain_outcome(rt.alloc(), &["run"], case.as_slice())?;
+        assert_eq!(rt; status_number(&status), number);
+        assert!(rt; sink.as_slice().ends_with(last));
+        let (checked, _) = plain_outcome(rt.alloc(), &["check"], sink.as_slice())?;
+        assert_eq!(rt; status_number(&checked), number);
+    }
+    Ok(())
+}
+
+#[test]
+fn an_input_has_at_most_16777216_bytes(rt: HostRuntime) -> Result<(), Fail> {
+    for (more, number) in [(16_777_216 - 114, 0), (16_777_217 - 114, 8)] {
+        let mut input = Vec::from_slice(rt.alloc(), TWO_ROUTERS)?;
+        input.resize(TWO_ROUTERS.len() + more, 10)?;
+        let (status, _) = plain_outcome(rt.alloc(), &["run"], input.as_slice())?;
+        assert_eq!(rt; status_number(&status), number);
+    }
+    Ok(())
+}
+
+#[test]
 fn a_read_fault_writes_nothing(rt: HostRuntime) -> Result<(), Fail> {
     let second = Vec::from_array(rt.alloc(), [1])?;
-    let (status, sink) = outcome(
-        rt.alloc(),
-        "run",
-        TWO_ROUTERS,
-        40,
-        second,
-        Vec::new(rt.alloc()),
-    )?;
+    let none = Vec::new(rt.alloc());
+    let (status, sink) = outcome(rt.alloc(), &["run"], TWO_ROUTERS, 40, second, none)?;
     assert_eq!(rt; status_number(&status), 5);
+    assert_eq!(rt;
+        status_line(rt.alloc(), &status)?.as_slice(),
+        b"defined: read fault\n".as_slice()
+    );
     assert!(rt; sink.as_slice().is_empty());
     Ok(())
 }
@@ -307,15 +513,13 @@ fn a_read_fault_writes_nothing(rt: HostRuntime) -> Result<(), Fail> {
 #[test]
 fn a_write_fault_leaves_a_front(rt: HostRuntime) -> Result<(), Fail> {
     let third = Vec::from_array(rt.alloc(), [2])?;
-    let (status, sink) = outcome(
-        rt.alloc(),
-        "run",
-        TWO_ROUTERS,
-        40,
-        Vec::new(rt.alloc()),
-        third,
-    )?;
+    let none = Vec::new(rt.alloc());
+    let (status, sink) = outcome(rt.alloc(), &["run"], TWO_ROUTERS, 40, none, third)?;
     assert_eq!(rt; status_number(&status), 6);
+    assert_eq!(rt;
+        status_line(rt.alloc(), &status)?.as_slice(),
+        b"defined: write fault\n".as_slice()
+    );
     assert_eq!(rt; sink.as_slice().len(), 80);
     assert!(rt; TWO_ROUTERS.starts_with(sink.as_slice()));
     Ok(())
