@@ -5,3 +5,4 @@ pub mod FletcherLaws
 pub mod LsaLaws
 pub mod HelloLaws
 pub mod GrammarLaws
+pub mod PacketLaws

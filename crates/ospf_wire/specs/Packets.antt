@@ -50,13 +50,15 @@ unfoldable pub header_text : Packet → ℕ → ℕ → List ℕ
 header_text p len sum =
   2 ∷ kind_of p.body ∷ number 2 len ++ number 4 p.router ++ number 4 p.area ++ number 2 sum ++ replicate 10 0
 
--- the bytes of a packet with this checksum
-abbrev pub packet_with : Packet → ℕ → List ℕ
-packet_with p sum = header_text p (24 + length (body_bytes p.body)) sum ++ body_bytes p.body
+-- the header over these bytes: its checksum is the complement of the sum where the checksum is zero
+unfoldable pub summed_header : Packet → List ℕ → List ℕ
+summed_header p body =
+  let len = 24 + length body in
+  header_text p len (packet_checksum (header_text p len 0 ++ body))
 
--- the bytes of a packet: its checksum is the complement of the sum where the checksum is zero
-abbrev pub packet_bytes : Packet → List ℕ
-packet_bytes p = packet_with p (packet_checksum (packet_with p 0))
+-- the bytes of a packet
+unfoldable pub packet_bytes : Packet → List ℕ
+packet_bytes p = summed_header p (body_bytes p.body) ++ body_bytes p.body
 
 -- each LSA of a body has the length that its header says
 abbrev pub HaveLengths : Body → Type 0

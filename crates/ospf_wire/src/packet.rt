@@ -1,8 +1,8 @@
 //! Whole packets (RFC 2328 appendix A.3.1).
 
-ghost use Rattle.std.specs.Prelude.{◌≡◌, ◌≤◌, ◌<◌, ◌^◌, ◌++◌, IsTrue, IfOk, IfSome, IfNone, OnOk, length};
+ghost use Rattle.std.specs.Prelude.{◌≡◌, ◌+◌, ◌≤◌, ◌<◌, ◌^◌, ◌++◌, IsTrue, IfOk, IfSome, IfNone, OnOk, length};
 ghost use Rattle.ospf_wire.specs.declared.packet.Packet.{Packet};
-ghost use Rattle.ospf_wire.specs.Packets.{body_bytes, kind_of, header_text, packet_bytes, HaveLengths, HasFewLsas, IsPacket, FitsBody};
+ghost use Rattle.ospf_wire.specs.Packets.{body_bytes, kind_of, header_text, summed_header, packet_bytes, HaveLengths, HasFewLsas, IsPacket, FitsBody};
 ghost use Rattle.dn_guest.specs.KeepsFront.{KeepsFront};
 ghost use Rattle.ospf_wire.specs.Reading.{has_header, body_at, packet_at};
 
@@ -133,6 +133,19 @@ fn header_text(packet: &Packet, length: u16, sum: u16) -> [u8; 24]
     bytes
 }
 
+/// The header of a packet with these bytes as its body.
+fn summed_header(packet: &Packet, body: &[u8]) -> [u8; 24]
+    requires { 24 + length body.now ≤ 65535 }
+    ensures bytes { result ≡ summed_header packet.now body.now }
+    ensures router_fits { packet.now.router < 2 ^ 32 }
+    ensures area_fits { packet.now.area < 2 ^ 32 }
+{
+    let length = (24 + body.len()) as u16;
+    let unsummed = header_text(packet, length, 0);
+    let sum = checksum(&unsummed[..16], body);
+    header_text(packet, length, sum)
+}
+
 /// Appends the bytes of a packet: zeros as authentication, and the complement of the sum as checksum.
 /// After `NoMemory` what was in `out` before still stands at its front.
 pub fn encode(alloc: Global, packet: &Packet, out: &mut Bytes) -> Result<(), AllocError>
@@ -144,9 +157,6 @@ pub fn encode(alloc: Global, packet: &Packet, out: &mut Bytes) -> Result<(), All
 {
     let mut body = Vec::new(alloc);
     push_body(&packet.body, &mut body)?;
-    let length = (24 + body.len()) as u16;
-    let unsummed = header_text(packet, length, 0);
-    let sum = checksum(&unsummed[..16], &body);
-    out.append(&header_text(packet, length, sum))?;
+    out.append(&summed_header(packet, &body))?;
     out.append(&body)
 }
