@@ -1,5 +1,5 @@
 -- The two sums of the LS checksum, and the only pair of check bytes.
-use Rattle.std.proofs.Common.{◌≡◌, ℕ, zero, suc, ◌+◌, ◌-◌, ◌*◌, ◌/◌, ◌%◌, ◌<◌, ◌≤◌, Bool, true, false, cond, eqb, List, [], ◌∷◌, ◌++◌, length, take, get_or, ◌⊎◌, inl, inr, refl, sym, ap, ◌∙◌, arith}
+use Rattle.std.proofs.Common.{◌≡◌, ℕ, ◌+◌, ◌-◌, ◌*◌, ◌/◌, ◌%◌, ◌<◌, ◌≤◌, cond, eqb, List, [], ◌∷◌, ◌++◌, length, take, get_or, inl, inr, refl, sym, ap, ◌∙◌, arith}
 use Rattle.std.specs.Prelude.{sum}
 use Rattle.std.proofs.lemmas.Bool.{cases_eq, eq-eqb, ne_eqb}
 use Rattle.std.proofs.lemmas.List.{take_more, length-append}
@@ -132,8 +132,8 @@ checked_by l x y x1 x2 y1 y2 ex ey =
     let one : w * (n % 256) ≡ w * y = ap (λ (k : ℕ). w * k) is.2 in
     let other : (w + 1) * (n / 256 % 256) ≡ (w + 1) * x = ap (λ (k : ℕ). (w + 1) * k) is.1 in
     record {
-        plain = ap (λ (k : ℕ). k % 255) (plain_is l n ∙ omega (arith, is.1, is.2)) ∙ sums.0;
-        weighted = ap (λ (k : ℕ). k % 255) (weighted_is l n ∙ omega (arith, one, other)) ∙ sums.1;
+      plain = ap (λ (k : ℕ). k % 255) (plain_is l n ∙ omega (arith, is.1, is.2)) ∙ sums.0;
+      weighted = ap (λ (k : ℕ). k % 255) (weighted_is l n ∙ omega (arith, one, other)) ∙ sums.1;
     }
 
 pub some_check_bytes : (l : Lsa) → (n : ℕ) × AreCheckBytes n × IsChecked (with_sum l n)
@@ -153,7 +153,7 @@ one_check_bytes l m n mb nb mc nc =
     let m1 : m / 256 % 256 ≡ m / 256 = omega (arith, mb.first_most) in
     let n1 : n / 256 % 256 ≡ n / 256 = omega (arith, nb.first_most) in
     let pair = one_pair (plain_rest l) (weighted_rest l) w (m / 256 % 256) (m % 256) (n / 256 % 256) (n % 256)
-        (omega (arith, mb.first_least)) (omega arith) mb.second_least (omega arith) (omega (arith, nb.first_least)) (omega arith) nb.second_least (omega arith)
-        (ap (λ (k : ℕ). k % 255) (sym (plain_is l m)) ∙ mc.plain) (ap (λ (k : ℕ). k % 255) (sym (weighted_is l m)) ∙ mc.weighted)
-        (ap (λ (k : ℕ). k % 255) (sym (plain_is l n)) ∙ nc.plain) (ap (λ (k : ℕ). k % 255) (sym (weighted_is l n)) ∙ nc.weighted) in
+    (omega (arith, mb.first_least)) (omega arith) mb.second_least (omega arith) (omega (arith, nb.first_least)) (omega arith) nb.second_least (omega arith)
+    (ap (λ (k : ℕ). k % 255) (sym (plain_is l m)) ∙ mc.plain) (ap (λ (k : ℕ). k % 255) (sym (weighted_is l m)) ∙ mc.weighted)
+    (ap (λ (k : ℕ). k % 255) (sym (plain_is l n)) ∙ nc.plain) (ap (λ (k : ℕ). k % 255) (sym (weighted_is l n)) ∙ nc.weighted) in
     omega (arith, pair.0, pair.1)

@@ -1,5 +1,5 @@
 -- The laws of reading a Hello.
-use Rattle.std.proofs.Common.{◌≡◌, ℕ, ◌<◌, ◌≤◌, ltb, Bool, true, false, List, length, drop, Option, Some, None, refl, sym, ap, subst, ◌∙◌, arith}
+use Rattle.std.proofs.Common.{◌≡◌, ℕ, ltb, false, List, length, drop, Some, refl, ap, subst, arith}
 use Rattle.std.specs.Prelude.{option_map}
 use Rattle.std.proofs.lemmas.Bool.{ltb-false, le-ltb}
 use Rattle.ospf_wire.specs.declared.hello.Hello.{Hello}
@@ -16,15 +16,15 @@ hello_takes bytes h e =
     let a = passed (ltb (length bytes) 20) (option_map (hello_with bytes) (all_pieces 4 (field 0 4) (drop 20 bytes))) h e in
     let m = mapped (hello_with bytes) (all_pieces 4 (field 0 4) (drop 20 bytes)) h a.1 in
     let is : IsHello bytes (hello_with bytes m.0) = record {
-        whole = ltb-false (length bytes) 20 a.0;
-        mask = refl;
-        interval = refl;
-        options = refl;
-        priority = refl;
-        dead = refl;
-        dr = refl;
-        bdr = refl;
-        neighbours = all_take 4 (field 0 4) (drop 20 bytes) m.0 (omega arith) m.1;
+      whole = ltb-false (length bytes) 20 a.0;
+      mask = refl;
+      interval = refl;
+      options = refl;
+      priority = refl;
+      dead = refl;
+      dr = refl;
+      bdr = refl;
+      neighbours = all_take 4 (field 0 4) (drop 20 bytes) m.0 (omega arith) m.1;
     } in
     subst (λ (x : Hello). IsHello bytes x) m.2 is
 

@@ -1,7 +1,7 @@
 -- LSAs: read one after the other as a loop does, and the laws of reading them.
-use Rattle.std.proofs.Common.{◌≡◌, ℕ, zero, suc, ◌+◌, ◌-◌, ◌<◌, ◌≤◌, ◌||◌, ltb, Bool, true, false, cond, List, [], ◌∷◌, ◌++◌, length, drop, Option, Some, None, refl, sym, ap, subst, ◌∙◌, append_assoc, arith}
-use Rattle.std.specs.Prelude.{option_map, option_and_then, slice_range}
-use Rattle.std.proofs.lemmas.Bool.{ltb-false, le-ltb, or_parts, or_from}
+use Rattle.std.proofs.Common.{◌≡◌, ℕ, zero, suc, ◌+◌, ◌-◌, ◌<◌, ◌≤◌, ◌||◌, ltb, false, cond, List, [], ◌∷◌, ◌++◌, length, drop, Option, Some, None, refl, sym, ap, subst, ◌∙◌, append_assoc, arith}
+use Rattle.std.specs.Prelude.{option_map, slice_range}
+use Rattle.std.proofs.lemmas.Bool.{ltb-false, le-ltb, or_parts}
 use Rattle.std.proofs.lemmas.Option.{same_Some, option_and_then_some}
 use Rattle.std.proofs.lemmas.List.{append-nil}
 use Rattle.ospf_wire.specs.declared.lsa.Lsa.{Lsa}
@@ -65,10 +65,10 @@ lsa_takes bytes l e =
     let b = passed (ltb len 20 || ltb (length bytes) len) (Some made) l a.1 in
     let tests = or_parts (ltb len 20) (ltb (length bytes) len) b.0 in
     let stands : StandsAtFront bytes made = record {
-        head = refl;
-        least = ltb-false len 20 tests.0;
-        fits = ltb-false (length bytes) len tests.1;
-        body = refl;
+      head = refl;
+      least = ltb-false len 20 tests.0;
+      fits = ltb-false (length bytes) len tests.1;
+      body = refl;
     } in
     subst (λ (x : Lsa). StandsAtFront bytes x) (same_Some made l b.1) stands
 
@@ -94,9 +94,9 @@ lsas_take zero (b ∷ bytes) ls e = absurd cc
 lsas_take (suc count) bytes ls e =
     option_and_then_some (λ l. option_map (λ more. l ∷ more) (lsas_at count (drop l.head.length bytes))) (lsa_at bytes) ls e
     (λ l found rest.
-        let m = mapped (λ more. l ∷ more) (lsas_at count (drop l.head.length bytes)) ls rest in
-        let others = lsas_take count (drop l.head.length bytes) m.0 m.1 in
-        subst (λ (xs : List Lsa). AreLsas bytes xs × (length xs ≡ suc count)) m.2 ((lsa_takes bytes l found, others.0), ap suc others.1))
+    let m = mapped (λ more. l ∷ more) (lsas_at count (drop l.head.length bytes)) ls rest in
+    let others = lsas_take count (drop l.head.length bytes) m.0 m.1 in
+    subst (λ (xs : List Lsa). AreLsas bytes xs × (length xs ≡ suc count)) m.2 ((lsa_takes bytes l found, others.0), ap suc others.1))
 
 -- the LSAs are read
 lsas_again : (ls : List Lsa) (bytes : List ℕ) → AreLsas bytes ls → lsas_at (length ls) bytes ≡ Some ls

@@ -1,5 +1,5 @@
 -- Pieces of one length: read one after the other as a loop does, and the law of reading them.
-use Rattle.std.proofs.Common.{◌≡◌, ℕ, zero, suc, ◌+◌, ◌-◌, ◌*◌, ◌/◌, ◌%◌, ◌<◌, ◌≤◌, ◌==◌, Bool, true, List, [], ◌∷◌, ◌++◌, length, drop, Option, Some, None, refl, sym, ap, subst, ◌∙◌, append_assoc, arith}
+use Rattle.std.proofs.Common.{◌≡◌, ℕ, zero, suc, ◌+◌, ◌-◌, ◌*◌, ◌/◌, ◌%◌, ◌<◌, ◌==◌, List, [], ◌∷◌, ◌++◌, length, drop, Some, refl, sym, ap, subst, ◌∙◌, append_assoc, arith}
 use Rattle.std.proofs.Math.Nat.{div-add-mod', mul-mod_right, mul-div_cancel_left}
 use Rattle.std.proofs.lemmas.List.{drop-drop, length-drop, nil_from_length}
 use Rattle.std.proofs.lemmas.Option.{cond_some}
@@ -26,7 +26,7 @@ pieces_are n item (suc count) bytes len =
     (omega arith, refl, pieces_are n item count (drop n bytes) (omega (arith, length-drop n bytes)))
 
 -- bytes that are pieces are as many as these, and are read as these
-pieces_again : {X : Type 0} (n : ℕ) (item : List ℕ → X) (xs : List X) (bytes : List ℕ) → ArePieces n item bytes xs → (length bytes ≡ n * length xs) × (pieces n item (length xs) bytes ≡ xs)
+pub pieces_again : {X : Type 0} (n : ℕ) (item : List ℕ → X) (xs : List X) (bytes : List ℕ) → ArePieces n item bytes xs → (length bytes ≡ n * length xs) × (pieces n item (length xs) bytes ≡ xs)
 pieces_again n item [] bytes are = (omega (arith, ap length are), refl)
 pieces_again {X} n item (x ∷ xs) bytes are =
     let rest = pieces_again n item xs (drop n bytes) are.2 in

@@ -1,5 +1,5 @@
 -- The body of a Hello (RFC 2328 appendix A.3.2).
-use Rattle.std.specs.Prelude.{◌≡◌, ◌≤◌, ◌<◌, ◌^◌, ℕ, List, [], ◌∷◌, ◌++◌, length, drop, flat_map}
+use Rattle.std.specs.Prelude.{◌≡◌, ◌≤◌, ◌<◌, ◌^◌, ℕ, List, ◌∷◌, ◌++◌, length, drop, flat_map}
 use Rattle.ospf_wire.specs.declared.hello.Hello.{Hello}
 use Rattle.ospf_wire.specs.Fields.{field, number}
 use Rattle.ospf_wire.specs.Pieces.{ArePieces}
@@ -19,7 +19,7 @@ pub record IsHello (body : List ℕ) (h : Hello) : Type 0 where
 -- the 20 bytes before the neighbours
 unfoldable pub fixed_bytes : Hello → List ℕ
 fixed_bytes h =
-  number 4 h.mask ++ number 2 h.interval ++ h.options ∷ h.priority ∷ number 4 h.dead ++ number 4 h.dr ++ number 4 h.bdr
+    number 4 h.mask ++ number 2 h.interval ++ h.options ∷ h.priority ∷ number 4 h.dead ++ number 4 h.dr ++ number 4 h.bdr
 
 -- the bytes of ids
 abbrev pub ids_bytes : List ℕ → List ℕ

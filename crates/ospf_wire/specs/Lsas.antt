@@ -32,7 +32,7 @@ AreLsas bytes (l ∷ ls) = StandsAtFront bytes l × AreLsas (drop l.head.length 
 -- the 20 bytes of a header
 unfoldable pub header_bytes : LsaHeader → List ℕ
 header_bytes h =
-  number 2 h.age ++ h.options ∷ h.kind ∷ number 4 h.id ++ number 4 h.router ++ number 4 h.seq ++ number 2 h.sum ++ number 2 h.length
+    number 2 h.age ++ h.options ∷ h.kind ∷ number 4 h.id ++ number 4 h.router ++ number 4 h.seq ++ number 2 h.sum ++ number 2 h.length
 
 -- the bytes of headers
 abbrev pub headers_bytes : List LsaHeader → List ℕ

@@ -12,10 +12,10 @@ seq_rank seq = (seq + 2 ^ 31) % 2 ^ 32
 -- the age 3,600 is the newer, and else the smaller age where they differ by more than 900
 abbrev pub age_order : ℕ → ℕ → Ordering
 age_order a b =
-  if a == 3600 && not (b == 3600) then Greater
-  else if b == 3600 && not (a == 3600) then Less
-  else if nat_le b (a + 900) && nat_le a (b + 900) then Equal
-  else nat_cmp b a
+    if a == 3600 && not (b == 3600) then Greater
+    else if b == 3600 && not (a == 3600) then Less
+    else if nat_le b (a + 900) && nat_le a (b + 900) then Equal
+    else nat_cmp b a
 
 -- the sequence first, then the checksum, then the age: Greater where a is the newer
 abbrev pub newer_of : LsaHeader → LsaHeader → Ordering

@@ -1,6 +1,5 @@
 -- The grammar of packets (RFC 2328 appendix A.3.1), as a relation between whole inputs and packets.
-use Rattle.std.specs.Prelude.{◌≡◌, ◌+◌, ◌≤◌, ◌<◌, ◌^◌, ⊤, ℕ, List, [], ◌∷◌, ◌++◌, length, drop, replicate, All}
-use Rattle.ospf_wire.specs.declared.lsa.Lsa.{Lsa}
+use Rattle.std.specs.Prelude.{◌≡◌, ◌+◌, ◌*◌, ◌≤◌, ◌<◌, ◌^◌, ⊤, ℕ, List, ◌∷◌, ◌++◌, length, drop, replicate, sum_by, All}
 use Rattle.ospf_wire.specs.declared.packet.Body.{Body}
 use Rattle.ospf_wire.specs.declared.packet.Body.TheVariants as body
 use Rattle.ospf_wire.specs.declared.packet.Packet.{Packet}
@@ -48,22 +47,33 @@ body_bytes (body.Ack hs) = headers_bytes hs
 -- the header of a packet with this length and checksum, zeros as authentication
 unfoldable pub header_text : Packet → ℕ → ℕ → List ℕ
 header_text p len sum =
-  2 ∷ kind_of p.body ∷ number 2 len ++ number 4 p.router ++ number 4 p.area ++ number 2 sum ++ replicate 10 0
+    2 ∷ kind_of p.body ∷ number 2 len ++ number 4 p.router ++ number 4 p.area ++ number 2 sum ++ replicate 10 0
 
 -- the header over these bytes: its checksum is the complement of the sum where the checksum is zero
 unfoldable pub summed_header : Packet → List ℕ → List ℕ
 summed_header p body =
-  let len = 24 + length body in
-  header_text p len (packet_checksum (header_text p len 0 ++ body))
+    let len = 24 + length body in
+    header_text p len (packet_checksum (header_text p len 0 ++ body))
 
 -- the bytes of a packet
 unfoldable pub packet_bytes : Packet → List ℕ
 packet_bytes p = summed_header p (body_bytes p.body) ++ body_bytes p.body
 
+-- how many bytes a body has
+abbrev pub body_len : Body → ℕ
+body_len (body.Hello h) = 20 + 4 * length h.neighbours
+body_len (body.Update ls) = 4 + sum_by (λ l. 20 + length l.body) ls
+body_len (body.Ack hs) = 20 * length hs
+
 -- each LSA of a body has the length that its header says
 abbrev pub HaveLengths : Body → Type 0
 HaveLengths (body.Update ls) = All (λ l. l.head.length ≡ 20 + length l.body) ls
 HaveLengths _ = ⊤
+
+-- A packet that has bytes: its length has two bytes, and the lengths in it are right.
+pub record IsEncodable (p : Packet) : Type 0 where
+  pub room : 24 + body_len p.body ≤ 65535
+  pub lengths : HaveLengths p.body
 
 -- there are so few LSAs in a body that their number has four bytes
 abbrev pub HasFewLsas : Body → Type 0

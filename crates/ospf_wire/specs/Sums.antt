@@ -1,5 +1,5 @@
 -- The checksum of a packet (RFC 2328 appendix A.3.1 and D.4.1, RFC 1071).
-use Rattle.std.specs.Prelude.{◌≡◌, ◌+◌, ◌-◌, ◌*◌, ◌%◌, ℕ, zero, suc, List, [], ◌∷◌, ◌++◌, sum, take, drop}
+use Rattle.std.specs.Prelude.{◌+◌, ◌-◌, ◌*◌, ◌%◌, ℕ, zero, suc, List, [], ◌∷◌, ◌++◌, sum, take, drop}
 
 -- the words of two bytes each, an odd last byte padded with zero
 abbrev pub words : List ℕ → List ℕ

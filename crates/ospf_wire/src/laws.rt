@@ -1,10 +1,12 @@
 //! Laws of the definitions, each the contract of a function with an empty body.
 
-ghost use Rattle.std.specs.Prelude.{◌≡◌, ℕ, List};
+ghost use Rattle.std.specs.Prelude.{◌≡◌, ◌<◌, ◌++◌, ℕ, List, length, sum};
 ghost use Rattle.std.specs.Ordering.{ordering_reverse};
 ghost use Rattle.ospf_wire.specs.declared.lsa.Lsa.{Lsa};
 ghost use Rattle.ospf_wire.specs.declared.lsa.LsaHeader.{LsaHeader};
 ghost use Rattle.ospf_wire.specs.declared.packet.Packet.{Packet};
+ghost use Rattle.ospf_wire.specs.Fields.{number};
+ghost use Rattle.ospf_wire.specs.Sums.{words, packet_sum, packet_checksum};
 ghost use Rattle.ospf_wire.specs.Fletcher.{AreCheckBytes, IsChecked, with_sum};
 ghost use Rattle.ospf_wire.specs.Newer.{newer_of};
 ghost use Rattle.ospf_wire.specs.Packets.{IsPacket};
@@ -12,24 +14,27 @@ ghost use Rattle.ospf_wire.specs.Packets.{IsPacket};
 /// Bytes are one packet at most.
 pub fn one_packet()
     ensures { (bytes : List ℕ) (p q : Packet) → IsPacket bytes p → IsPacket bytes q → p ≡ q }
-{
-}
+{}
+
+/// The checksum over a packet whose checksum field is zero is right once it is written there. (The words
+/// before the field aren't all zero, since the version isn't.)
+pub fn written_checksum_is_right()
+    ensures { (front rest : List ℕ) (n : ℕ) → length front ≡ 12 → 0 < sum (words front)
+        → n ≡ packet_checksum (front ++ number 2 0 ++ rest) → packet_sum (front ++ number 2 n ++ rest) ≡ 65535 }
+{}
 
 /// Some LS checksum of two bytes from 1 to 255 is right for each LSA.
 pub fn check_bytes_are_there()
     ensures { (l : Lsa) → (n : ℕ) × AreCheckBytes n × IsChecked (with_sum l n) }
-{
-}
+{}
 
 /// No other LS checksum of two bytes from 1 to 255 is right.
 pub fn check_bytes_are_the_only_ones()
     ensures { (l : Lsa) (m n : ℕ) → AreCheckBytes m → AreCheckBytes n
         → IsChecked (with_sum l m) → IsChecked (with_sum l n) → m ≡ n }
-{
-}
+{}
 
 /// Which of two instances is the newer doesn't depend on which of them is asked first.
 pub fn newer_turns_round()
     ensures { (a b : LsaHeader) → newer_of b a ≡ ordering_reverse (newer_of a b) }
-{
-}
+{}

@@ -22,21 +22,27 @@
 mod ack;
 mod fletcher;
 mod hello;
-mod packet_sum;
+mod instances;
 mod laws;
 mod lists;
 mod lsa;
-mod instances;
 mod numbers;
 mod packet;
+mod packet_sum;
 mod update;
 
 pub use fletcher::{fletcher_ok, fletcher_set};
 pub use hello::Hello;
-pub use packet_sum::ip_sum;
-pub use laws::{check_bytes_are_there, check_bytes_are_the_only_ones, newer_turns_round, one_packet};
+pub use instances::newer;
+pub use laws::{
+    check_bytes_are_the_only_ones, check_bytes_are_there, newer_turns_round, one_packet,
+    written_checksum_is_right,
+};
 pub use lists::{Ids, LsaHeaders, Lsas};
 pub use lsa::{FIRST_SEQ, LAST_SEQ, Lsa, LsaHeader, MAX_AGE};
-pub use instances::newer;
 pub use packet::{Body, Packet, decode, encode};
+pub use packet_sum::ip_sum;
 pub use std::alloc::AllocError as NoMemory;
+
+#[cfg(test)]
+mod tests;

@@ -39,7 +39,7 @@ pub struct LsaHeader {
 }
 
 /// A whole LSA: its header and the bytes behind it.
-#[derive(Drop)]
+#[derive(Drop, PartialEq, Eq)]
 pub struct Lsa {
     pub head: LsaHeader,
     pub body: Bytes,

@@ -2,14 +2,14 @@
 
 ghost use Rattle.std.specs.Prelude.{◌≡◌, ◌+◌, ◌≤◌, ◌<◌, ◌^◌, ◌++◌, IsTrue, IfOk, IfSome, IfNone, OnOk, length};
 ghost use Rattle.ospf_wire.specs.declared.packet.Packet.{Packet};
-ghost use Rattle.ospf_wire.specs.Packets.{body_bytes, kind_of, header_text, summed_header, packet_bytes, HaveLengths, HasFewLsas, IsPacket, FitsBody};
+ghost use Rattle.ospf_wire.specs.Packets.{body_bytes, kind_of, header_text, summed_header, packet_bytes, HasFewLsas, IsEncodable, IsPacket, FitsBody};
 ghost use Rattle.dn_guest.specs.KeepsFront.{KeepsFront};
 ghost use Rattle.ospf_wire.specs.Reading.{has_header, body_at, packet_at};
 
 use crate::ack::{push_headers, read_headers};
 use crate::hello::{Hello, push_hello, read_hello};
-use crate::packet_sum::{checksum, ip_sum};
 use crate::numbers::{bytes_from, u8_at, u16_at, u32_at};
+use crate::packet_sum::{checksum, ip_sum};
 use crate::update::{push_update, read_update};
 use crate::{LsaHeaders, Lsas};
 use byteorder::{BigEndian, ByteOrder};
@@ -44,9 +44,10 @@ fn has_header(bytes: &[u8]) -> bool
     ensures long { IsTrue result → 24 ≤ length bytes.now }
 {
     bytes.len() >= 24
-        && (u8_at(bytes, 0) == 2
-            && (usize::from(u16_at(bytes, 2)) == bytes.len()
-                && (u16_at(bytes, 14) == 0 && ip_sum(bytes) == 0)))
+        && u8_at(bytes, 0) == 2
+        && usize::from(u16_at(bytes, 2)) == bytes.len()
+        && u16_at(bytes, 14) == 0
+        && ip_sum(bytes) == 0
 }
 
 /// The body of a packet of this type.
@@ -87,6 +88,8 @@ fn read_packet(alloc: Global, bytes: &[u8]) -> Result<Option<Packet>, AllocError
 pub fn decode(alloc: Global, bytes: &[u8]) -> Result<Option<Packet>, AllocError>
     ensures found { IfOk result (λ found. IfSome found (λ p. IsPacket bytes.now p)) }
     ensures none { IfOk result (λ found. IfNone found ((p : Packet) → ¬ IsPacket bytes.now p)) }
+    ensures read { IfOk result (λ found. (p : Packet) → IsPacket bytes.now p → found ≡ Some p) }
+    ensures encodable { IfOk result (λ found. IfSome found IsEncodable) }
 {
     read_packet(alloc, bytes)
 }
@@ -149,8 +152,7 @@ fn summed_header(packet: &Packet, body: &[u8]) -> [u8; 24]
 /// Appends the bytes of a packet: zeros as authentication, and the complement of the sum as checksum.
 /// After `NoMemory` what was in `out` before still stands at its front.
 pub fn encode(alloc: Global, packet: &Packet, out: &mut Bytes) -> Result<(), AllocError>
-    requires room { length (packet_bytes packet.now) ≤ 65535 }
-    requires lengths { HaveLengths packet.now.body }
+    requires { IsEncodable packet.now }
     ensures ok { OnOk result (out.new ≡ out.old ++ packet_bytes packet.now) }
     ensures back { OnOk result (IsPacket (packet_bytes packet.now) packet.now) }
     ensures kept { KeepsFront out.old out.new }

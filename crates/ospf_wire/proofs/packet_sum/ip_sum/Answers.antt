@@ -1,5 +1,5 @@
-use Rattle.std.proofs.Common.{◌≡◌, ℕ, List, ◌+◌, length, take, drop, ap, sym, ◌∙◌}
-use Rattle.std.specs.Prelude.{sum, min}
+use Rattle.std.proofs.Common.{◌≡◌, ℕ, List, ◌+◌, take, drop, ap, sym, ◌∙◌}
+use Rattle.std.specs.Prelude.{sum}
 use Rattle.std.proofs.lemmas.List.{take_min, drop_min}
 use Rattle.ospf_wire.specs.Sums.{packet_checksum, words, checksum}
 use Rattle.ospf_wire.proofs.SumLaws.{sum-summed}

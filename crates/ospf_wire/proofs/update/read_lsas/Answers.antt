@@ -1,8 +1,6 @@
-use Rattle.std.proofs.Common.{◌≡◌, ℕ, List, [], ◌∷◌, ◌++◌, drop, Some, None, sym, ap, subst, ◌∙◌}
-use Rattle.std.specs.Prelude.{Option}
-use Rattle.ospf_wire.specs.declared.lsa.Lsa.{Lsa}
+use Rattle.std.proofs.Common.{◌≡◌, ℕ, [], ◌∷◌, ◌++◌, drop, Some, None, sym, ap, ◌∙◌}
 use Rattle.ospf_wire.specs.Reading.{lsa_at, lsas_at}
-use Rattle.ospf_wire.proofs.LsaLaws.{with_front, lsas_more, lsas_none}
+use Rattle.ospf_wire.proofs.LsaLaws.{lsas_more, lsas_none}
 use Rattle.ospf_wire.proofs.update.read_lsas.Goals as goal
 
 pub loop-place-preserved : goal.loop-place-preserved
