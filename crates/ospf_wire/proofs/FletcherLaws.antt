@@ -8,7 +8,7 @@ use Rattle.ospf_wire.specs.declared.lsa.Lsa.{Lsa}
 use Rattle.ospf_wire.specs.declared.lsa.LsaHeader.{LsaHeader}
 use Rattle.ospf_wire.specs.Fields.{number}
 use Rattle.ospf_wire.specs.Lsas.{header_bytes}
-use Rattle.ospf_wire.specs.Fletcher.{weighted, checked_bytes, IsChecked, AreCheckBytes, with_sum}
+use Rattle.ospf_wire.specs.Fletcher.{weighted, checked_bytes, IsChecked, AreCheckBytes, with_sum, check_byte, ls_checksum}
 
 pub sum-append : (xs ys : List ℕ) → sum (xs ++ ys) ≡ sum xs + sum ys
 sum-append xs ys = sum_by-append (λ x. x) xs ys
@@ -103,11 +103,7 @@ some_pair p q w x y small ex ey =
     let rest : w * p ≡ w * (255 * (p / 255) + p % 255) = ap (λ (k : ℕ). w * k) (omega arith) in
     (plain, omega arith)
 
--- a number of 1 to 255 that is this one modulo 255
-abbrev byte_of : ℕ → ℕ
-byte_of n = cond (eqb (n % 255) 0) 255 (n % 255)
-
-byte_is : (n : ℕ) → (1 ≤ byte_of n) × (byte_of n ≤ 255) × (byte_of n % 255 ≡ n % 255)
+byte_is : (n : ℕ) → (1 ≤ check_byte n) × (check_byte n ≤ 255) × (check_byte n % 255 ≡ n % 255)
 byte_is n =
     elim (cases_eq (n % 255) 0) [
       | inl none ↦ rw (eq-eqb (n % 255) 0 none) (omega arith, omega arith, omega arith)
@@ -136,18 +132,30 @@ checked_by l x y x1 x2 y1 y2 ex ey =
       weighted = ap (λ (k : ℕ). k % 255) (weighted_is l n ∙ omega (arith, one, other)) ∙ sums.1;
     }
 
-pub some_check_bytes : (l : Lsa) → (n : ℕ) × AreCheckBytes n × IsChecked (with_sum l n)
-some_check_bytes l =
-    let w = length l.body + 3 in
-    let a = w * (plain_rest l % 255) + 255 - weighted_rest l % 255 in
-    let x = byte_of a in
-    let first = byte_is a in
-    let b = 510 - plain_rest l % 255 - x in
-    let y = byte_of b in
-    let second = byte_is b in
-    (256 * x + y, (pair_is x y first.0 first.1 second.0 second.1).0, checked_by l x y first.0 first.1 second.0 second.1 first.2 second.2)
+-- the sums that the LS checksum is solved from
+solved : (l : Lsa) → (sum (checked_bytes (with_sum l 0).head l.body) ≡ plain_rest l) × (weighted (checked_bytes (with_sum l 0).head l.body) ≡ weighted_rest l)
+solved l = (plain_is l 0 ∙ omega arith, weighted_is l 0 ∙ omega arith)
 
-pub one_check_bytes : (l : Lsa) (m n : ℕ) → AreCheckBytes m → AreCheckBytes n → IsChecked (with_sum l m) → IsChecked (with_sum l n) → m ≡ n
+pub right : (l : Lsa) → AreCheckBytes (ls_checksum l) × IsChecked (with_sum l (ls_checksum l))
+unfolding ls_checksum
+right l =
+    let w = length l.body + 3 in
+    let p = sum (checked_bytes (with_sum l 0).head l.body) % 255 in
+    let q = weighted (checked_bytes (with_sum l 0).head l.body) % 255 in
+    let a = w * p + 255 - q in
+    let x = check_byte a in
+    let first = byte_is a in
+    let b = 510 - p - x in
+    let y = check_byte b in
+    let second = byte_is b in
+    let e = solved l in
+    let p-is : p ≡ plain_rest l % 255 = ap (λ (k : ℕ). k % 255) e.0 in
+    let q-is : q ≡ weighted_rest l % 255 = ap (λ (k : ℕ). k % 255) e.1 in
+    let ex : x % 255 ≡ (w * (plain_rest l % 255) + 255 - weighted_rest l % 255) % 255 = first.2 ∙ ap (λ (k : ℕ). (w * k + 255 - q) % 255) p-is ∙ ap (λ (k : ℕ). (w * (plain_rest l % 255) + 255 - k) % 255) q-is in
+    let ey : y % 255 ≡ (510 - plain_rest l % 255 - x) % 255 = second.2 ∙ ap (λ (k : ℕ). (510 - k - x) % 255) p-is in
+    ((pair_is x y first.0 first.1 second.0 second.1).0, checked_by l x y first.0 first.1 second.0 second.1 ex ey)
+
+one_check_bytes : (l : Lsa) (m n : ℕ) → AreCheckBytes m → AreCheckBytes n → IsChecked (with_sum l m) → IsChecked (with_sum l n) → m ≡ n
 one_check_bytes l m n mb nb mc nc =
     let w = length l.body + 3 in
     let m1 : m / 256 % 256 ≡ m / 256 = omega (arith, mb.first_most) in
@@ -157,3 +165,8 @@ one_check_bytes l m n mb nb mc nc =
     (ap (λ (k : ℕ). k % 255) (sym (plain_is l m)) ∙ mc.plain) (ap (λ (k : ℕ). k % 255) (sym (weighted_is l m)) ∙ mc.weighted)
     (ap (λ (k : ℕ). k % 255) (sym (plain_is l n)) ∙ nc.plain) (ap (λ (k : ℕ). k % 255) (sym (weighted_is l n)) ∙ nc.weighted) in
     omega (arith, pair.0, pair.1)
+
+pub only : (l : Lsa) (n : ℕ) → AreCheckBytes n → IsChecked (with_sum l n) → n ≡ ls_checksum l
+only l n bytes checked =
+    let r = right l in
+    one_check_bytes l n (ls_checksum l) bytes r.0 checked r.1

@@ -1,5 +1,5 @@
 -- The LS checksum (RFC 2328 section 12.1.7, RFC 905 annex B).
-use Rattle.std.specs.Prelude.{◌≡◌, ◌+◌, ◌*◌, ◌/◌, ◌%◌, ◌≤◌, ℕ, List, [], ◌∷◌, ◌++◌, length, sum, drop}
+use Rattle.std.specs.Prelude.{◌≡◌, ◌==◌, if◌then◌else◌, ◌+◌, ◌-◌, ◌*◌, ◌/◌, ◌%◌, ◌≤◌, ℕ, List, [], ◌∷◌, ◌++◌, length, sum, drop}
 use Rattle.ospf_wire.specs.declared.lsa.LsaHeader.{LsaHeader}
 use Rattle.ospf_wire.specs.declared.lsa.Lsa.{Lsa}
 use Rattle.ospf_wire.specs.Lsas.{header_bytes}
@@ -27,3 +27,16 @@ pub record AreCheckBytes (n : ℕ) : Type 0 where
 -- the LSA with this LS checksum
 abbrev pub with_sum : Lsa → ℕ → Lsa
 with_sum l n = record l { head = record l.head { sum = n } }
+
+-- the number of 1 to 255 that is equal to this one modulo 255
+abbrev pub check_byte : ℕ → ℕ
+check_byte n = if n % 255 == 0 then 255 else n % 255
+
+-- The two sums without the check bytes, solved for the pair of 1 to 255 that makes them 0 modulo 255. That
+-- there is one such pair alone is a law of its own.
+unfoldable pub ls_checksum : Lsa → ℕ
+ls_checksum l =
+  let bytes = checked_bytes (with_sum l 0).head l.body in
+  let plain = sum bytes % 255 in
+  let first = check_byte ((length l.body + 3) * plain + 255 - weighted bytes % 255) in
+  256 * first + check_byte (510 - plain - first)

@@ -1,7 +1,7 @@
 //! The LS checksum of an LSA (RFC 2328 section 12.1.7, RFC 905 annex B).
 
 ghost use Rattle.std.specs.Prelude.{◌≡◌, ◌↔◌, ◌+◌, ◌*◌, ◌≤◌, ◌<◌, ◌^◌, ◌%◌, IsTrue, length, sum};
-ghost use Rattle.ospf_wire.specs.Fletcher.{weighted, checked_bytes, IsChecked, AreCheckBytes, with_sum};
+ghost use Rattle.ospf_wire.specs.Fletcher.{weighted, checked_bytes, IsChecked, AreCheckBytes, check_byte, ls_checksum, with_sum};
 
 use crate::lsa::header_bytes;
 use crate::numbers::bytes_from;
@@ -60,31 +60,40 @@ pub fn fletcher_ok(lsa: &Lsa) -> bool
     sums.plain % 255 == 0 && sums.weighted % 255 == 0
 }
 
-/// A number of 1 to 255 that is this one modulo 255.
+/// The number of 1 to 255 that is this one modulo 255.
 fn check_byte(n: u64) -> u16
-    ensures least { 1 ≤ result }
+    ensures value { result ≡ check_byte n }
     ensures most { result ≤ 255 }
-    ensures same { result % 255 ≡ n % 255 }
 {
     let rest = (n % 255) as u16;
     if rest == 0 { 255 } else { rest }
+}
+
+/// The LS checksum that is right for the LSA.
+fn ls_checksum(lsa: &Lsa) -> u16
+    requires { lsa.now.head.length ≡ 20 + length lsa.now.body }
+    ensures { result ≡ ls_checksum lsa.now }
+{
+    let unsummed = LsaHeader {
+        sum: 0,
+        ..lsa.head
+    };
+    let sums = sums_of(unsummed, lsa.body.as_slice());
+    let plain = sums.plain % 255;
+    let weighted = sums.weighted % 255;
+    // The weight of the second check byte, as many bytes as there are from it on.
+    let weight = lsa.body.len() as u64 + 3;
+    let first = check_byte(weight * plain + 255 - weighted);
+    256 * first + check_byte(510 - plain - u64::from(first))
 }
 
 /// Writes the LS checksum: the only pair of bytes from 1 to 255 with which both sums are 0 modulo 255.
 /// All else stays. It takes no memory.
 pub fn fletcher_set(lsa: &mut Lsa)
     requires { lsa.old.head.length ≡ 20 + length lsa.old.body }
-    ensures written { lsa.new ≡ with_sum lsa.old lsa.new.head.sum }
+    ensures written { lsa.new ≡ with_sum lsa.old (ls_checksum lsa.old) }
     ensures bytes { AreCheckBytes lsa.new.head.sum }
     ensures checked { IsChecked lsa.new }
 {
-    lsa.head.sum = 0;
-    let sums = sums_of(lsa.head, lsa.body.as_slice());
-    let plain = sums.plain % 255;
-    let weighted = sums.weighted % 255;
-    // The weight of the second check byte, as many bytes as there are from it on.
-    let weight = lsa.body.len() as u64 + 3;
-    let first = check_byte(weight * plain + 255 - weighted);
-    let second = check_byte(510 - plain - u64::from(first));
-    lsa.head.sum = 256 * first + second;
+    lsa.head.sum = ls_checksum(lsa);
 }

@@ -7,7 +7,7 @@ ghost use Rattle.ospf_wire.specs.declared.lsa.LsaHeader.{LsaHeader};
 ghost use Rattle.ospf_wire.specs.declared.packet.Packet.{Packet};
 ghost use Rattle.ospf_wire.specs.Fields.{number};
 ghost use Rattle.ospf_wire.specs.Sums.{words, packet_sum, packet_checksum};
-ghost use Rattle.ospf_wire.specs.Fletcher.{AreCheckBytes, IsChecked, with_sum};
+ghost use Rattle.ospf_wire.specs.Fletcher.{AreCheckBytes, IsChecked, ls_checksum, with_sum};
 ghost use Rattle.ospf_wire.specs.Newer.{newer_of};
 ghost use Rattle.ospf_wire.specs.Packets.{IsPacket};
 
@@ -23,16 +23,17 @@ pub fn written_checksum_is_right()
         → n ≡ packet_checksum (front ++ number 2 0 ++ rest) → packet_sum (front ++ number 2 n ++ rest) ≡ 65535 }
 {}
 
-/// Some LS checksum of two bytes from 1 to 255 is right for each LSA.
-pub fn check_bytes_are_there()
-    ensures { (l : Lsa) → (n : ℕ) × AreCheckBytes n × IsChecked (with_sum l n) }
-{}
+/// The LS checksum of an LSA is two bytes of 1 to 255, with which both sums are 0 modulo 255.
+pub fn ls_checksum_is_right()
+    ensures { (l : Lsa) → AreCheckBytes (ls_checksum l) × IsChecked (with_sum l (ls_checksum l)) }
+{
+}
 
-/// No other LS checksum of two bytes from 1 to 255 is right.
-pub fn check_bytes_are_the_only_ones()
-    ensures { (l : Lsa) (m n : ℕ) → AreCheckBytes m → AreCheckBytes n
-        → IsChecked (with_sum l m) → IsChecked (with_sum l n) → m ≡ n }
-{}
+/// No other two bytes of 1 to 255 do it.
+pub fn ls_checksum_is_the_only_one()
+    ensures { (l : Lsa) (n : ℕ) → AreCheckBytes n → IsChecked (with_sum l n) → n ≡ ls_checksum l }
+{
+}
 
 /// Which of two instances is the newer doesn't depend on which of them is asked first.
 pub fn newer_turns_round()
