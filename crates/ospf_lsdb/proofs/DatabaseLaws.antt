@@ -1,12 +1,13 @@
 -- Each change of the database keeps each LSA at its own name, and what is written through a look-up is a change.
-use Rattle.std.proofs.Common.{◌≡◌, ℕ, Bool, true, false, cond, List, [], ◌∷◌, map, refl, sym, ap, subst, ◌∙◌}
-use Rattle.std.specs.Prelude.{Option, Some, None}
+use Rattle.std.proofs.Common.{◌≡◌, ℕ, Bool, true, false, cond, List, [], ◌∷◌, map, Bor, refl, sym, ap, ◌∙◌}
+use Rattle.std.specs.Prelude.{Option, Some, None, IfSome, option_copied}
 use Rattle.std.specs.List.{AllByRecursion}
 use Rattle.std.specs.Map.{lookup, set_value, remove_entry}
 use Rattle.std.specs.BTreeMap.{insert_entry, is_at}
 use Rattle.std.specs.declared.cmp.Ordering.{Ordering}
 use Rattle.std.specs.declared.cmp.Ordering.TheVariants.{Less, Equal, Greater}
 use Rattle.std.specs.Ordering.{nat_cmp, ordering_then, match_ordering, is_eq}
+use Rattle.std.proofs.lemmas.Option.{none-some, same_Some}
 use Rattle.std.proofs.lemmas.Map.Lookups.{exact_unsigned}
 use Rattle.ospf_lsdb.specs.declared.key.LsaKey.{LsaKey}
 use Rattle.ospf_lsdb.specs.declared.kept.Kept.{Kept}
@@ -49,7 +50,7 @@ IsNamed e = e.0 ≡ key_of e.1.lsa.head
 
 put : (o : Ordering) (e : LsaKey × Kept) (db : Database) (key : LsaKey) (k : Kept) → (o ≡ Equal → key ≡ e.0) → IsNamed (key, k) → IsNamed e → AreNamed db → AreNamed (with_kept db key k)
     → AreNamed (match_ordering o ((key, k) ∷ e ∷ db) ((e.0, k) ∷ db) (e ∷ with_kept db key k))
-put Less e db key k tie new old rest more = (new, old, rest)
+put Less e db key k tie new old rest more = (new, (old, rest))
 put Equal e db key k tie new old rest more = (sym (tie refl) ∙ new, rest)
 put Greater e db key k tie new old rest more = (old, more)
 
@@ -99,36 +100,36 @@ found_name [] key k named found = absurd cc
 found_name (e ∷ db) key k named found =
     found_by (is_at (key_cmp key) e.0) key e (kept_at db key) k (at_same key e.0) named.0 (found_name db key k named.1) found
 
-set_by : (b : Bool) (e : LsaKey × Kept) (db : Database) (change : Kept → Kept) (k : Kept) (set rest : Database) → cond b (Some e.1) (Some k) ≡ Some k → set ≡ rest
-    → cond b ((e.0, change k) ∷ db) (e ∷ set) ≡ cond b ((e.0, change e.1) ∷ db) (e ∷ rest)
-set_by true e db change k set rest found same =
-    let k-is : e.1 ≡ k = cc in
-    ap (λ (x : Kept). (e.0, change x) ∷ db) (sym k-is)
-set_by false e db change k set rest found same = ap (λ (es : Database). e ∷ es) same
+set_here : (b : Bool) (e : LsaKey × Kept) (db : Database) (key : LsaKey) (change : Kept → Kept) (k : Kept) → is_at (key_cmp key) e.0 ≡ b → kept_at (e ∷ db) key ≡ Some k
+    → (kept_at db key ≡ Some k → set_value (is_at (key_cmp key)) db (change k) ≡ changed key change db)
+    → set_value (is_at (key_cmp key)) (e ∷ db) (change k) ≡ changed key change (e ∷ db)
+set_here true e db key change k t found later =
+    let here : Some e.1 ≡ Some k = rw t at found in
+    rw t (ap (λ (x : Kept). (e.0, change x) ∷ db) (sym (same_Some e.1 k here)))
+set_here false e db key change k t found later =
+    let there : kept_at db key ≡ Some k = rw t at found in
+    rw t (ap (λ (es : Database). e ∷ es) (later there))
 
 -- the changed value written where it was found is the change
 pub set_changed : (db : Database) (key : LsaKey) (change : Kept → Kept) (k : Kept) → kept_at db key ≡ Some k → set_value (is_at (key_cmp key)) db (change k) ≡ changed key change db
 set_changed [] key change k found = absurd cc
-set_changed (e ∷ db) key change k found = set_here (is_at (key_cmp key) e.0) refl
-  where
-    set_here : (b : Bool) → is_at (key_cmp key) e.0 ≡ b → set_value (is_at (key_cmp key)) (e ∷ db) (change k) ≡ changed key change (e ∷ db)
-    set_here true t =
-        let found_here : cond true (Some e.1) (kept_at db key) ≡ Some k = rw t at found in
-        let k-is : e.1 ≡ k = cc in
-        rw t (ap (λ (x : Kept). (e.0, change x) ∷ db) (sym k-is))
-    set_here false t =
-        let found_later : kept_at db key ≡ Some k = rw t at found in
-        rw t (ap (λ (es : Database). e ∷ es) (set_changed db key change k found_later))
+set_changed (e ∷ db) key change k found = set_here (is_at (key_cmp key) e.0) e db key change k refl found (set_changed db key change k)
+
+not_here : (b : Bool) (e : LsaKey × Kept) (db : Database) (key : LsaKey) (change : Kept → Kept) → is_at (key_cmp key) e.0 ≡ b → kept_at (e ∷ db) key ≡ None
+    → (kept_at db key ≡ None → changed key change db ≡ db) → changed key change (e ∷ db) ≡ e ∷ db
+not_here true e db key change t none later =
+    let impossible : Some e.1 ≡ None = rw t at none in
+    absurd (none-some e.1 (sym impossible))
+not_here false e db key change t none later =
+    let there : kept_at db key ≡ None = rw t at none in
+    rw t (ap (λ (es : Database). e ∷ es) (later there))
 
 -- where nothing is found, nothing changes
 pub not_changed : (db : Database) (key : LsaKey) (change : Kept → Kept) → kept_at db key ≡ None → changed key change db ≡ db
 not_changed [] key change none = refl
-not_changed (e ∷ db) key change none = not_here (is_at (key_cmp key) e.0) refl
-  where
-    not_here : (b : Bool) → is_at (key_cmp key) e.0 ≡ b → changed key change (e ∷ db) ≡ e ∷ db
-    not_here true t =
-        let impossible : Some e.1 ≡ None = rw t at none in
-        absurd cc
-    not_here false t =
-        let later : kept_at db key ≡ None = rw t at none in
-        rw t (ap (λ (es : Database). e ∷ es) (not_changed db key change later))
+not_changed (e ∷ db) key change none = not_here (is_at (key_cmp key) e.0) e db key change refl none (not_changed db key change)
+
+-- what a look-up answers by reference has the name by which it was looked up
+pub copied_name : (db : Database) (key : LsaKey) (found : Option (Bor Kept)) → AreNamed db → option_copied found ≡ kept_at db key → IfSome found (λ k. key_of k.now.lsa.head ≡ key)
+copied_name db key None named e = tt
+copied_name db key (Some k) named e = found_name db key k.now named (sym e)

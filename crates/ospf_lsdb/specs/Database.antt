@@ -55,11 +55,11 @@ seq_after (Some k) = if k.lsa.head.seq == 0x7fffffff then None else Some ((k.lsa
 -- a router's own LSA with this sequence number and body, and with the right LS checksum
 abbrev pub own_lsa : ℕ → ℕ → List ℕ → Lsa
 own_lsa router seq body =
-  let lsa : Lsa = record {
-    head = record { age = 0; options = 2; kind = 1; id = router; router = router; seq = seq; sum = 0; length = 20 + length body };
-    body = body;
-  } in
-  with_sum lsa (ls_checksum lsa)
+    let lsa : Lsa = record {
+      head = record { age = 0; options = 2; kind = 1; id = router; router = router; seq = seq; sum = 0; length = 20 + length body };
+      body = body;
+    } in
+    with_sum lsa (ls_checksum lsa)
 
 -- the database in which the own LSA with this sequence number, if there is one, was installed now, not by flooding
 abbrev pub with_own : Database → ℕ → List ℕ → ℕ → Option ℕ → Database

@@ -68,7 +68,8 @@ impl Lsdb {
         ensures err { OnErr result (self.new ≡ self.old) }
     {
         let key = key_of(&lsa.head);
-        self.kept.insert(key, Kept::new(lsa, now, flooded, foreign))?;
+        self.kept
+            .insert(key, Kept::new(lsa, now, flooded, foreign))?;
         Ok(())
     }
 
@@ -76,9 +77,7 @@ impl Lsdb {
     pub fn note_sent(&mut self, key: &LsaKey, now: u32)
         ensures { self.new ≡ changed key.now (sent_at now) self.old }
     {
-        if let Some(kept) = self.kept.get_mut(key) {
-            kept.sent = Some(now);
-        }
+        set_sent(&mut self.kept, key, now);
     }
 
     /// The age of the LSA at this tick.
@@ -106,9 +105,7 @@ impl Lsdb {
     pub fn flush(&mut self, key: &LsaKey, now: u32)
         ensures { self.new ≡ changed key.now (at_end now) self.old }
     {
-        if let Some(kept) = self.kept.get_mut(key) {
-            kept.end(now);
-        }
+        set_end(&mut self.kept, key, now);
     }
 
     /// Removes the LSA. Nothing happens where it isn't there.
@@ -163,4 +160,22 @@ fn all_keys(alloc: Global, kept: &BTreeMap<LsaKey, Kept>) -> Result<Vec<LsaKey>,
     ensures { IfOk result (λ keys. keys.items ≡ keys_of kept.now.entries) }
 {
     kept.keys().copied().collect(alloc)
+}
+
+/// Notes that the LSA was sent, if it is there.
+fn set_sent(kept: &mut BTreeMap<LsaKey, Kept>, key: &LsaKey, now: u32)
+    ensures { kept.new.entries ≡ changed key.now (sent_at now) kept.old.entries }
+{
+    if let Some(one) = kept.get_mut(key) {
+        one.sent = Some(now);
+    }
+}
+
+/// Sets the LSA to the greatest age, if it is there.
+fn set_end(kept: &mut BTreeMap<LsaKey, Kept>, key: &LsaKey, now: u32)
+    ensures { kept.new.entries ≡ changed key.now (at_end now) kept.old.entries }
+{
+    if let Some(one) = kept.get_mut(key) {
+        one.end(now);
+    }
 }

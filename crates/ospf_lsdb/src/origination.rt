@@ -5,7 +5,7 @@ ghost use Rattle.ospf_lsdb.specs.Keys.{own_key};
 ghost use Rattle.ospf_lsdb.specs.Database.{kept_at, originated, own_lsa, seq_after};
 
 use crate::key::own_key;
-use crate::{Kept, Lsdb, LsaKey};
+use crate::{Kept, LsaKey, Lsdb};
 use dn_guest::Bytes;
 use ospf_wire::{FIRST_SEQ, LAST_SEQ, Lsa, LsaHeader, fletcher_set};
 use std::alloc::AllocError;
@@ -15,7 +15,7 @@ const OPTIONS: u8 = 2;
 
 /// The sequence number behind that of the own LSA, and the first where there is none.
 fn seq_after(own: Option<&Kept>) -> Option<u32>
-    ensures { result ≡ seq_after (option_copied own) }
+    ensures { result ≡ seq_after (option_copied own.entry) }
 {
     match own {
         None => Some(FIRST_SEQ),
