@@ -1,5 +1,7 @@
 //! Each call once with ample memory, and the own LSA at both ends of its sequence numbers.
 
+ghost use Rattle.std.specs.Prelude.{◌≡◌, IfOk, length};
+
 use crate::{Kept, LsaKey, Lsdb};
 use dn_guest::Bytes;
 use ospf_wire::{FIRST_SEQ, LAST_SEQ, Lsa, LsaHeader, NoMemory};
@@ -38,7 +40,9 @@ fn lsa(alloc: Global, key: LsaKey, age: u16, seq: u32) -> Lsa {
 }
 
 /// A router-LSA body without links.
-fn no_links(alloc: Global) -> Result<Bytes, NoMemory> {
+fn no_links(alloc: Global) -> Result<Bytes, NoMemory>
+    ensures { IfOk result (λ body. length body ≡ 4) }
+{
     Bytes::from_slice(alloc, &[0, 0, 0, 0])
 }
 

@@ -36,7 +36,7 @@ check_byte n = if n % 255 == 0 then 255 else n % 255
 -- there is one such pair alone is a law of its own.
 unfoldable pub ls_checksum : Lsa → ℕ
 ls_checksum l =
-  let bytes = checked_bytes (with_sum l 0).head l.body in
-  let plain = sum bytes % 255 in
-  let first = check_byte ((length l.body + 3) * plain + 255 - weighted bytes % 255) in
-  256 * first + check_byte (510 - plain - first)
+    let bytes = checked_bytes (with_sum l 0).head l.body in
+    let plain = sum bytes % 255 in
+    let first = check_byte ((length l.body + 3) * plain + 255 - weighted bytes % 255) in
+    256 * first + check_byte (510 - plain - first)

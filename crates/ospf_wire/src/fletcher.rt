@@ -74,10 +74,7 @@ fn ls_checksum(lsa: &Lsa) -> u16
     requires { lsa.now.head.length ≡ 20 + length lsa.now.body }
     ensures { result ≡ ls_checksum lsa.now }
 {
-    let unsummed = LsaHeader {
-        sum: 0,
-        ..lsa.head
-    };
+    let unsummed = LsaHeader { sum: 0, ..lsa.head };
     let sums = sums_of(unsummed, lsa.body.as_slice());
     let plain = sums.plain % 255;
     let weighted = sums.weighted % 255;

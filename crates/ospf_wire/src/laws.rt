@@ -1,6 +1,6 @@
 //! Laws of the definitions, each the contract of a function with an empty body.
 
-ghost use Rattle.std.specs.Prelude.{◌≡◌, ◌<◌, ◌++◌, ℕ, List, length, sum};
+ghost use Rattle.std.specs.Prelude.{◌≡◌, ◌↔◌, ◌<◌, ◌++◌, ℕ, List, length, sum};
 ghost use Rattle.std.specs.Ordering.{ordering_reverse};
 ghost use Rattle.ospf_wire.specs.declared.lsa.Lsa.{Lsa};
 ghost use Rattle.ospf_wire.specs.declared.lsa.LsaHeader.{LsaHeader};
@@ -10,6 +10,12 @@ ghost use Rattle.ospf_wire.specs.Sums.{words, packet_sum, packet_checksum};
 ghost use Rattle.ospf_wire.specs.Fletcher.{AreCheckBytes, IsChecked, ls_checksum, with_sum};
 ghost use Rattle.ospf_wire.specs.Newer.{newer_of};
 ghost use Rattle.ospf_wire.specs.Packets.{IsPacket};
+ghost use Rattle.ospf_wire.specs.Reading.{packet_at};
+
+/// What is read from bytes is the packet that they are, and the packet that they are is read.
+pub fn packets_are_read()
+    ensures { (bytes : List ℕ) (p : Packet) → (packet_at bytes ≡ Some p) ↔ IsPacket bytes p }
+{}
 
 /// Bytes are one packet at most.
 pub fn one_packet()
@@ -26,14 +32,12 @@ pub fn written_checksum_is_right()
 /// The LS checksum of an LSA is two bytes of 1 to 255, with which both sums are 0 modulo 255.
 pub fn ls_checksum_is_right()
     ensures { (l : Lsa) → AreCheckBytes (ls_checksum l) × IsChecked (with_sum l (ls_checksum l)) }
-{
-}
+{}
 
 /// No other two bytes of 1 to 255 do it.
 pub fn ls_checksum_is_the_only_one()
     ensures { (l : Lsa) (n : ℕ) → AreCheckBytes n → IsChecked (with_sum l n) → n ≡ ls_checksum l }
-{
-}
+{}
 
 /// Which of two instances is the newer doesn't depend on which of them is asked first.
 pub fn newer_turns_round()

@@ -34,7 +34,10 @@ mod update;
 pub use fletcher::{fletcher_ok, fletcher_set};
 pub use hello::Hello;
 pub use instances::newer;
-pub use laws::{ls_checksum_is_right, ls_checksum_is_the_only_one, newer_turns_round, one_packet, written_checksum_is_right};
+pub use laws::{
+    ls_checksum_is_right, ls_checksum_is_the_only_one, newer_turns_round, one_packet,
+    packets_are_read, written_checksum_is_right,
+};
 pub use lists::{Ids, LsaHeaders, Lsas};
 pub use lsa::{FIRST_SEQ, LAST_SEQ, Lsa, LsaHeader, MAX_AGE};
 pub use packet::{Body, Packet, decode, encode};

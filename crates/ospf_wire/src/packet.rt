@@ -86,6 +86,7 @@ fn read_packet(alloc: Global, bytes: &[u8]) -> Result<Option<Packet>, AllocError
 /// The authentication's bytes are not looked at. It takes memory for what the packet holds, and none in
 /// proportion to a number that the packet only claims.
 pub fn decode(alloc: Global, bytes: &[u8]) -> Result<Option<Packet>, AllocError>
+    ensures exact { IfOk result (λ found. found ≡ packet_at bytes.now) }
     ensures found { IfOk result (λ found. IfSome found (λ p. IsPacket bytes.now p)) }
     ensures none { IfOk result (λ found. IfNone found ((p : Packet) → ¬ IsPacket bytes.now p)) }
     ensures read { IfOk result (λ found. (p : Packet) → IsPacket bytes.now p → found ≡ Some p) }
