@@ -132,7 +132,8 @@ impl Lsdb {
 
     /// The keys, in ascending order.
     pub fn keys(&self) -> Result<Vec<LsaKey>, AllocError>
-        ensures { IfOk result (λ keys. keys.items ≡ keys_of self.now) }
+        ensures keys { IfOk result (λ keys. keys.items ≡ keys_of self.now) }
+        ensures ascending { IsStrictlySortedBy key_cmp (keys_of self.now) }
     {
         all_keys(self.alloc, &self.kept)
     }
@@ -157,7 +158,8 @@ impl Lsdb {
 
 /// The keys of a map, in ascending order.
 fn all_keys(alloc: Global, kept: &BTreeMap<LsaKey, Kept>) -> Result<Vec<LsaKey>, AllocError>
-    ensures { IfOk result (λ keys. keys.items ≡ keys_of kept.now.entries) }
+    ensures keys { IfOk result (λ keys. keys.items ≡ keys_of kept.now.entries) }
+    ensures ascending { IsStrictlySortedBy key_cmp (keys_of kept.now.entries) }
 {
     kept.keys().copied().collect(alloc)
 }
