@@ -16,7 +16,7 @@ use byteorder::{BigEndian, ByteOrder};
 use dn_guest::Bytes;
 use std::alloc::{AllocError, Global};
 
-/// What a packet carries, by its type.
+/// What a packet carries, by its type. Types 2 and 3, the exchange of databases, have no decoding yet.
 #[derive(Drop)]
 pub enum Body {
     /// Type 1, Hello.

@@ -1,7 +1,4 @@
-use Rattle.std.proofs.Common.{◌≡◌, ap, sym, ◌∙◌}
-use Rattle.std.specs.Map.{set_value}
-use Rattle.std.specs.BTreeMap.{is_at}
-use Rattle.ospf_lsdb.specs.Keys.{key_cmp}
+use Rattle.std.proofs.Common.{sym, ◌∙◌}
 use Rattle.ospf_lsdb.specs.Kept.{sent_at}
 use Rattle.ospf_lsdb.proofs.DatabaseLaws.{set_changed, not_changed}
 use Rattle.ospf_lsdb.proofs.lsdb.set_sent.Goals as goal

@@ -1,4 +1,4 @@
-use Rattle.std.proofs.Common.{◌≡◌, sym, ◌∙◌}
+use Rattle.std.proofs.Common.{sym, ◌∙◌}
 use Rattle.std.proofs.lemmas.Map.Lookups.{btree_map_eq-Decides}
 use Rattle.ospf_lsdb.proofs.Equalities.{keys_decide, values_decide}
 use Rattle.ospf_lsdb.proofs.lsdb.Lsdb.same.Goals as goal
