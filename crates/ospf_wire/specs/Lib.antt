@@ -1,0 +1,9 @@
+pub mod Fields
+pub mod Pieces
+pub mod Lsas
+pub mod Hellos
+pub mod Sums
+pub mod Fletcher
+pub mod Newer
+pub mod Packets
+pub mod Reading

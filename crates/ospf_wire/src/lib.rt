@@ -1,0 +1,48 @@
+//! OSPFv2 packets (RFC 2328 appendix A), the two checksums that stand in them, and which of two
+//! instances of an LSA is the newer.
+//!
+//! | File | What it has |
+//! |---|---|
+//! | `packet.rt` | `Packet` and `Body`; `decode` and `encode` |
+//! | `hello.rt` | the body of a Hello |
+//! | `update.rt` | the body of a Link State Update |
+//! | `ack.rt` | the body of a Link State Acknowledgement |
+//! | `lsa.rt` | `LsaHeader` and `Lsa` |
+//! | `lists.rt` | `Ids`, `Lsas` and `LsaHeaders`, the lists in packets |
+//! | `packet_sum.rt` | the checksum of a packet |
+//! | `fletcher.rt` | the LS checksum of an LSA |
+//! | `instances.rt` | which instance of an LSA is the newer |
+//! | `numbers.rt` | numbers in bytes |
+//! | `laws.rt` | laws of the definitions |
+//!
+//! The one contract upwards: `decode` gives the packet exactly where the bytes are one of the grammar
+//! of `specs/Packets.antt`, and what `encode` writes is such bytes of its packet.
+#![tactic(auto)]
+
+mod ack;
+mod fletcher;
+mod hello;
+mod instances;
+mod laws;
+mod lists;
+mod lsa;
+mod numbers;
+mod packet;
+mod packet_sum;
+mod update;
+
+pub use fletcher::{fletcher_ok, fletcher_set};
+pub use hello::Hello;
+pub use instances::newer;
+pub use laws::{
+    ls_checksum_is_right, ls_checksum_is_the_only_one, newer_turns_round, one_packet,
+    packets_are_read, written_checksum_is_right,
+};
+pub use lists::{Ids, LsaHeaders, Lsas};
+pub use lsa::{FIRST_SEQ, LAST_SEQ, Lsa, LsaHeader, MAX_AGE};
+pub use packet::{Body, Packet, decode, encode};
+pub use packet_sum::ip_sum;
+pub use std::alloc::AllocError as NoMemory;
+
+#[cfg(test)]
+mod tests;

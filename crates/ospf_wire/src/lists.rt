@@ -1,0 +1,119 @@
+//! The lists that packets hold.
+
+ghost use Rattle.std.specs.Prelude.{◌≡◌};
+
+use crate::{Lsa, LsaHeader};
+use std::marker::Model;
+
+/// Router ids, in order.
+#[derive(Drop)]
+pub struct Ids {
+    items: Vec<u32>,
+}
+
+impl Model for Ids {
+    ghost use Rattle.std.specs.Prelude.{List, ℕ};
+
+    ghost Value = { List ℕ };
+
+    ghost view = { λ l. l.items.items };
+}
+
+impl Ids {
+    /// The same ids, with no memory taken.
+    pub fn from_vec(items: Vec<u32>) -> Ids
+        ensures { result ≡ items.items }
+    {
+        Ids { items }
+    }
+
+    /// The ids.
+    pub fn as_slice(&self) -> &[u32]
+        ensures { result.now ≡ self.now }
+    {
+        self.items.as_slice()
+    }
+
+    /// The same ids, with no memory taken.
+    pub fn into_vec(self) -> Vec<u32>
+        ensures { result.items ≡ self }
+    {
+        self.items
+    }
+}
+
+/// LSAs, in order.
+#[derive(Drop)]
+pub struct Lsas {
+    items: Vec<Lsa>,
+}
+
+impl Model for Lsas {
+    ghost use Rattle.std.specs.Prelude.{List};
+    ghost use Rattle.ospf_wire.specs.declared.lsa.Lsa.{Lsa};
+
+    ghost Value = { List Lsa };
+
+    ghost view = { λ l. l.items.items };
+}
+
+impl Lsas {
+    /// The same LSAs, with no memory taken.
+    pub fn from_vec(items: Vec<Lsa>) -> Lsas
+        ensures { result ≡ items.items }
+    {
+        Lsas { items }
+    }
+
+    /// The LSAs.
+    pub fn as_slice(&self) -> &[Lsa]
+        ensures { result.now ≡ self.now }
+    {
+        self.items.as_slice()
+    }
+
+    /// The same LSAs, with no memory taken.
+    pub fn into_vec(self) -> Vec<Lsa>
+        ensures { result.items ≡ self }
+    {
+        self.items
+    }
+}
+
+/// Headers of LSAs, in order.
+#[derive(Drop)]
+pub struct LsaHeaders {
+    items: Vec<LsaHeader>,
+}
+
+impl Model for LsaHeaders {
+    ghost use Rattle.std.specs.Prelude.{List};
+    ghost use Rattle.ospf_wire.specs.declared.lsa.LsaHeader.{LsaHeader};
+
+    ghost Value = { List LsaHeader };
+
+    ghost view = { λ l. l.items.items };
+}
+
+impl LsaHeaders {
+    /// The same headers, with no memory taken.
+    pub fn from_vec(items: Vec<LsaHeader>) -> LsaHeaders
+        ensures { result ≡ items.items }
+    {
+        LsaHeaders { items }
+    }
+
+    /// The headers.
+    pub fn as_slice(&self) -> &[LsaHeader]
+        ensures { result.now ≡ self.now }
+    {
+        self.items.as_slice()
+    }
+
+    /// The same headers, with no memory taken.
+    pub fn into_vec(self) -> Vec<LsaHeader>
+        ensures { result.items ≡ self }
+    {
+        self.items
+    }
+}
