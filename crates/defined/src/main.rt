@@ -7,14 +7,21 @@ use dn_io::{StdSink, StdSource};
 use dn_top::{Status, defined_top, status_line, status_number};
 use std::alloc::AllocError;
 use std::env;
-use std::io::Write;
+use std::io::{ErrorKind, Write};
 use std::process::ExitCode;
 use std::rt::Env;
 
 /// The words without the program's name; None where one of them isn't text.
 fn words_of(rt: &(impl Env + AllocGlobal)) -> Result<Option<Vec<String>>, AllocError> {
-    let Ok(all) = env::args(rt) else {
-        return Ok(None);
+    let all = match env::args(rt) {
+        Ok(all) => all,
+        Err(error) => {
+            return if error.kind() == ErrorKind::OutOfMemory {
+                Err(AllocError)
+            } else {
+                Ok(None)
+            };
+        }
     };
     let mut words = Vec::new(rt.alloc());
     for word in all.skip(1) {
