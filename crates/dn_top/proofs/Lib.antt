@@ -1,2 +1,3 @@
 pub mod Networks
 pub mod Answering
+pub mod Completing

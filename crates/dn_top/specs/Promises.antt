@@ -67,10 +67,11 @@ pub record HasBegun (input : List ℕ) (old now : Option (List ℕ)) : Type 0 wh
   pub has : HasCase input case size
   pub front : PutsFront old now (written case)
 
--- the first bad line of the input, and no front of the input is a case text
+-- the first bad line of the input, which is within the limit, and no front of it is a case text
 pub record IsBadCase (input : List ℕ) (fault : CaseFault) : Type 0 where
   pub first : IsFirstBad (lines input) fault.line fault.cause
   pub none : HasNoCase input
+  pub within : length input ≤ input_limit
 
 -- ---- what is compared
 

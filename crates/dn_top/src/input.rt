@@ -36,6 +36,7 @@ pub(crate) fn read_input<S: Source>(alloc: Global, source: &mut S) -> Result<Vec
 
 /// The case at the front of the input, and how many bytes it has.
 pub(crate) fn first_case(alloc: Global, input: &[u8]) -> Result<(Case, u64), Status>
+    requires { length input.now ≤ input_limit }
     ensures found { IfOk result (λ found. IsCaseFront input.now found.0 found.1) }
     ensures within { IfOk result (λ found. found.1 ≤ length input.now) }
     ensures refusal { IfErr result (λ status. IsCaseRefusal input.now status) }

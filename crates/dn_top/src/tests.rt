@@ -2,9 +2,14 @@
 
 ghost use Rattle.std.specs.Prelude.{◌≤◌};
 
+use crate::written::guests_of;
 use crate::{Status, defined_plain, defined_top, status_line, status_number};
-use dn_guest::{Bytes, NoMemory};
+use dn_case::{CaseError, read_case};
+use dn_guest::{Bytes, Flood, NoMemory, Node};
 use dn_io::{MemSink, MemSource};
+use dn_lockstep::Engine;
+use dn_model::Case;
+use dn_trace::{Checked, Ending, TraceWriter, check, write_row, write_state, write_trace};
 use std::alloc::Global;
 use std::test::Fail;
 
@@ -522,5 +527,83 @@ fn a_write_fault_leaves_a_front(rt: HostRuntime) -> Result<(), Fail> {
     );
     assert_eq!(rt; sink.as_slice().len(), 80);
     assert!(rt; TWO_ROUTERS.starts_with(sink.as_slice()));
+    Ok(())
+}
+
+/// The case of two routers; None where it can't be read.
+fn two_routers(alloc: Global) -> Result<Option<Case>, NoMemory> {
+    match read_case(alloc, TWO_ROUTERS) {
+        Ok((case, _)) => Ok(Some(case)),
+        Err(CaseError::Fault(_)) => Ok(None),
+        Err(CaseError::NoMemory) => Err(NoMemory),
+    }
+}
+
+/// An empty sink.
+fn empty_sink(alloc: Global) -> Result<MemSink, NoMemory> {
+    MemSink::new(alloc, Vec::new(alloc), 4096, 65_536)
+}
+
+#[test]
+fn the_pieces_of_a_trace_are_written(rt: HostRuntime) -> Result<(), Fail> {
+    let alloc = rt.alloc();
+    let case = two_routers(alloc)?;
+    assert!(rt; case.is_some());
+    let Some(case) = case else {
+        return Ok(());
+    };
+    let mut engine = Engine::new(alloc, &case, guests_of(alloc, &case)?)?;
+    engine.next()?;
+    assert!(rt; engine.last().is_some());
+    let Some(row) = engine.last() else {
+        return Ok(());
+    };
+    let mut one_row = empty_sink(alloc)?;
+    assert!(rt; write_row(alloc, &case.header, row, &mut one_row).is_ok());
+    assert_eq!(rt;
+        one_row.as_slice(),
+        b"0 0 t 0000000000000000 0 0 a tick\n".as_slice()
+    );
+    let mut rows = Vec::new(alloc);
+    rows.push(row.copy(alloc)?)?;
+    let mut writer = TraceWriter::new(alloc);
+    let mut first_rows = empty_sink(alloc)?;
+    assert!(rt;
+        writer
+            .rows(&case.header, rows.as_slice(), &mut first_rows)
+            .is_ok()
+    );
+    assert_eq!(rt; writer.count(), 1);
+    assert_eq!(rt;
+        first_rows.as_slice(),
+        b"trace\n0 0 t 0000000000000000 0 0 a tick\n".as_slice()
+    );
+    let node = Node {
+        guest: Flood::new(alloc),
+        ports: 1,
+        sends: 12,
+    };
+    let mut state = empty_sink(alloc)?;
+    assert!(rt; write_state(alloc, &case.header, 1, &node, &mut state).is_ok());
+    assert_eq!(rt; state.as_slice(), b"state b 12 0001 0000\n".as_slice());
+    Ok(())
+}
+
+#[test]
+fn a_whole_trace_is_written_and_compared(rt: HostRuntime) -> Result<(), Fail> {
+    let alloc = rt.alloc();
+    let case = two_routers(alloc)?;
+    assert!(rt; case.is_some());
+    let Some(case) = case else {
+        return Ok(());
+    };
+    let mut sink = empty_sink(alloc)?;
+    let ending = write_trace(alloc, &case, guests_of(alloc, &case)?, &mut sink);
+    assert!(rt; matches!(ending, Ok(Ending::Whole)));
+    assert_eq!(rt; sink.as_slice(), TWO_ROUTERS_TRACE);
+    let same = check(alloc, &case, guests_of(alloc, &case)?, TWO_ROUTERS_TRACE)?;
+    assert!(rt; matches!(same, Checked::Equal));
+    let shorter = check(alloc, &case, guests_of(alloc, &case)?, b"trace\n")?;
+    assert!(rt; matches!(shorter, Checked::Differs(6)));
     Ok(())
 }

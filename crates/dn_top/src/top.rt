@@ -4,7 +4,9 @@ ghost use Rattle.std.specs.Prelude.{◌≡◌, ◌≢◌, ◌↔◌, ◌<◌, �
 ghost use Rattle.std.specs.String.{string_bytes};
 ghost use Rattle.dn_io.specs.Streams.{Rose, Gives};
 ghost use Rattle.dn_top.specs.Words.{command_of, plain_of};
+ghost use Rattle.dn_top.specs.declared.status.Status.{Status};
 ghost use Rattle.dn_top.specs.Promises.{Answers, input_limit, is_of_whole_input};
+ghost use Rattle.dn_top.specs.Completeness.{Owes, IsCalm, IsAnswered};
 
 use crate::checking::check_trace;
 use crate::run::run_lockstep;
@@ -28,6 +30,10 @@ pub fn defined_top<S: Source, K: Sink>(
     // What each status says of the input, and what was written.
     ensures answers { IfSome (command_of (map string_bytes words.now)) (λ command. IfSome (S.left source.old) (λ input.
         Answers command result input (K.holds sink.old) (K.holds sink.new))) }
+
+    // Each cause has its answer: where no fault came, what the input asks for is answered, or there was no memory.
+    ensures complete { IfSome (command_of (map string_bytes words.now)) (λ command. IfSome (S.left source.old) (λ input. (owed : Status) →
+        Owes command input owed → IsCalm (S.faults source.old) (S.faults source.new) → IsCalm (K.faults sink.old) (K.faults sink.new) → IsAnswered owed result)) }
 
     // Words that are no command, and no others; nothing is read or written then.
     ensures usage { (result ≡ Status.Usage) ↔ (command_of (map string_bytes words.now) ≡ None) }
@@ -62,6 +68,10 @@ pub fn defined_plain<S: Source, K: Sink>(
     // What each status says of the input, and what was written.
     ensures answers { IfSome (plain_of (command_of (map string_bytes words.now))) (λ command. IfSome (S.left source.old) (λ input.
         Answers command result input (K.holds sink.old) (K.holds sink.new))) }
+
+    // Each cause has its answer: where no fault came, what the input asks for is answered, or there was no memory.
+    ensures complete { IfSome (plain_of (command_of (map string_bytes words.now))) (λ command. IfSome (S.left source.old) (λ input. (owed : Status) →
+        Owes command input owed → IsCalm (S.faults source.old) (S.faults source.new) → IsCalm (K.faults sink.old) (K.faults sink.new) → IsAnswered owed result)) }
 
     // Words that are no command here, and no others; nothing is read or written then.
     ensures usage { (result ≡ Status.Usage) ↔ (plain_of (command_of (map string_bytes words.now)) ≡ None) }
