@@ -1,0 +1,5 @@
+pub mod Lists
+pub mod Flooding
+pub mod Stub
+pub mod Table
+pub mod Receiving
