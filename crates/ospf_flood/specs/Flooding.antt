@@ -20,6 +20,9 @@ pub record State : Type 0 where
   pub db : Database
   pub lists : OnPorts
 
+abbrev pub state : Database → OnPorts → State
+state db lists = record { db = db; lists = lists }
+
 -- where the mask has a port the LSA was sent now
 abbrev pub noted : ℕ → LsaKey → ℕ → Database → Database
 noted ports key now db = if ports == 0 then db else changed key (sent_at now) db

@@ -8,6 +8,7 @@ mod receiving;
 mod stub;
 mod table;
 
+pub use flooding::flood;
 pub use lists::Lists;
 pub use receiving::{Step, receive};
 pub use table::Verdict;

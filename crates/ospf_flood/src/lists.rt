@@ -9,7 +9,7 @@ ghost use Rattle.ospf_lsdb.specs.Database.{with_kept};
 ghost use Rattle.ospf_flood.specs.Flooding.{put_on};
 ghost use Rattle.ospf_flood.specs.Lists.{due, list_of, off, off_all, tick_of, with_tick};
 
-use crate::flooding::install_from;
+use crate::flooding::{install_from, put_each};
 use crate::port_list::PortList;
 use ospf_lsdb::{LsaKey, Lsdb};
 use ospf_wire::Lsa;
@@ -58,6 +58,15 @@ impl Lists {
     {
         self.ports[usize::from(port)].put(key, now)?;
         Ok(())
+    }
+
+    /// Puts the LSA on the lists of the ports of this mask, sent at this tick. Bits of the mask past the
+    /// last list are none of a port. Where memory is short nothing is changed.
+    pub fn put_on(&mut self, ports: u16, key: LsaKey, now: u32) -> Result<(), AllocError>
+        ensures ok { OnOk result (self.new ≡ put_on ports key now self.old) }
+        ensures err { OnErr result (self.new ≡ self.old) }
+    {
+        put_each(self.ports.as_mut_slice(), 0, ports, key, now)
     }
 
     /// Takes the LSA off the port's list. Nothing happens where it isn't there.

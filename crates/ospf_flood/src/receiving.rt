@@ -4,13 +4,14 @@ ghost use Rattle.std.specs.Prelude.{◌≡◌, ◌+◌, ◌<◌, IfOk, OnOk, OnE
 ghost use Rattle.dn_guest.specs.Ports.{with_down};
 ghost use Rattle.ospf_lsdb.specs.Keys.{key_of};
 ghost use Rattle.ospf_flood.specs.Lists.{list_of};
-ghost use Rattle.ospf_flood.specs.Flooding.{noted};
+ghost use Rattle.ospf_flood.specs.Flooding.{state};
 ghost use Rattle.ospf_flood.specs.Table.{verdict_of};
 ghost use Rattle.ospf_flood.specs.Receiving.{after, flushed, installed, is_own, is_stray, received, spread, step_of, to_install};
 
+use crate::flooding::note;
 use crate::table::{judge, taken};
 use crate::{Lists, Verdict};
-use ospf_lsdb::{LsaKey, Lsdb, key_of};
+use ospf_lsdb::{Lsdb, key_of};
 use ospf_wire::Lsa;
 use std::alloc::AllocError;
 
@@ -51,15 +52,6 @@ fn but(ports: u16, port: u8) -> u16
     }
 }
 
-/// Notes the LSA as sent where the mask has a port.
-fn note(db: &mut Lsdb, ports: u16, key: &LsaKey, now: u32)
-    ensures { db.new ≡ noted ports key.now now db.old }
-{
-    if ports != 0 {
-        db.note_sent(key, now);
-    }
-}
-
 /// The LSA as it is installed: with an age of at most 3,600.
 fn to_install(lsa: &Lsa) -> Result<Lsa, AllocError>
     ensures { IfOk result (λ new. new ≡ to_install lsa.now) }
@@ -80,8 +72,8 @@ fn spread(
     own: u32,
     now: u32,
 ) -> Result<(), AllocError>
-    ensures database { OnOk result (db.new ≡ (spread (record { db = db.old; lists = lists.old }) full from lsa.now own now).db) }
-    ensures lists { OnOk result (lists.new ≡ (spread (record { db = db.old; lists = lists.old }) full from lsa.now own now).lists) }
+    ensures database { OnOk result (db.new ≡ (spread (state db.old lists.old) full from lsa.now own now).db) }
+    ensures lists { OnOk result (lists.new ≡ (spread (state db.old lists.old) full from lsa.now own now).lists) }
     ensures database_err { OnErr result (db.new ≡ db.old) }
     ensures lists_err { OnErr result (lists.new ≡ lists.old) }
 {
@@ -103,8 +95,8 @@ fn spread_and_flush(
     own: u32,
     now: u32,
 ) -> Result<(), AllocError>
-    ensures database { OnOk result (db.new ≡ (flushed (spread (record { db = db.old; lists = lists.old }) full from lsa.now own now) full (key_of lsa.now.head) now).db) }
-    ensures lists { OnOk result (lists.new ≡ (flushed (spread (record { db = db.old; lists = lists.old }) full from lsa.now own now) full (key_of lsa.now.head) now).lists) }
+    ensures database { OnOk result (db.new ≡ (flushed (spread (state db.old lists.old) full from lsa.now own now) full (key_of lsa.now.head) now).db) }
+    ensures lists { OnOk result (lists.new ≡ (flushed (spread (state db.old lists.old) full from lsa.now own now) full (key_of lsa.now.head) now).lists) }
     ensures database_err { OnErr result (db.new ≡ db.old) }
     ensures lists_err { OnErr result (lists.new ≡ lists.old) }
 {
@@ -126,8 +118,8 @@ fn install(
     own: u32,
     now: u32,
 ) -> Result<(), AllocError>
-    ensures database { OnOk result (db.new ≡ (installed (record { db = db.old; lists = lists.old }) full from lsa.now own now).db) }
-    ensures lists { OnOk result (lists.new ≡ (installed (record { db = db.old; lists = lists.old }) full from lsa.now own now).lists) }
+    ensures database { OnOk result (db.new ≡ (installed (state db.old lists.old) full from lsa.now own now).db) }
+    ensures lists { OnOk result (lists.new ≡ (installed (state db.old lists.old) full from lsa.now own now).lists) }
     ensures database_err { OnErr result (db.new ≡ db.old) }
     ensures lists_err { OnErr result (lists.new ≡ lists.old) }
 {
@@ -150,8 +142,8 @@ fn act(
     now: u32,
 ) -> Result<(), AllocError>
     requires { from < length lists.old }
-    ensures database { OnOk result (db.new ≡ (after verdict (record { db = db.old; lists = lists.old }) full from lsa.now own now).db) }
-    ensures lists { OnOk result (lists.new ≡ (after verdict (record { db = db.old; lists = lists.old }) full from lsa.now own now).lists) }
+    ensures database { OnOk result (db.new ≡ (after verdict (state db.old lists.old) full from lsa.now own now).db) }
+    ensures lists { OnOk result (lists.new ≡ (after verdict (state db.old lists.old) full from lsa.now own now).lists) }
     ensures database_err { OnErr result (db.new ≡ db.old) }
     ensures lists_err { OnErr result (lists.new ≡ lists.old) }
 {
@@ -202,8 +194,8 @@ pub fn receive(
     requires port { from < length lists.old }
     requires length { lsa.now.head.length ≡ 20 + length lsa.now.body }
     ensures step { IfOk result (λ step. step ≡ step_of (verdict_of db.old (list_of lists.old from) lsa.now now) lsa.now own) }
-    ensures database { OnOk result (db.new ≡ (received (record { db = db.old; lists = lists.old }) full from lsa.now own now).db) }
-    ensures lists { OnOk result (lists.new ≡ (received (record { db = db.old; lists = lists.old }) full from lsa.now own now).lists) }
+    ensures database { OnOk result (db.new ≡ (received (state db.old lists.old) full from lsa.now own now).db) }
+    ensures lists { OnOk result (lists.new ≡ (received (state db.old lists.old) full from lsa.now own now).lists) }
     ensures database_err { OnErr result (db.new ≡ db.old) }
     ensures lists_err { OnErr result (lists.new ≡ lists.old) }
 {
