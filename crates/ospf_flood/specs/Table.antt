@@ -1,5 +1,5 @@
 -- The table by which an LSA is judged that comes in a Link State Update (RFC 2328 section 13).
-use Rattle.std.specs.Prelude.{◌+◌, ◌%◌, ◌==◌, ◌&&◌, ◌||◌, ℕ, Bool, true, false, not, nat_eq, nat_le, min, if◌then◌else◌, List, length, sum, Option, Some, None, is_some}
+use Rattle.std.specs.Prelude.{◌%◌, ◌==◌, ◌&&◌, ◌||◌, ℕ, Bool, false, not, nat_eq, nat_le, min, if◌then◌else◌, length, sum, Option, Some, None, is_some}
 use Rattle.std.specs.Option.{is_none, option_eq}
 use Rattle.std.specs.declared.cmp.Ordering.{Ordering}
 use Rattle.std.specs.declared.cmp.Ordering.TheVariants.{Less, Equal, Greater}
@@ -15,7 +15,7 @@ use Rattle.ospf_lsdb.specs.Database.{Database, kept_at}
 use Rattle.ospf_flood.specs.declared.table.Verdict.{Verdict}
 use Rattle.ospf_flood.specs.declared.table.Verdict.TheVariants.{Discarded, Acked, Installed, SentBack, Implied}
 use Rattle.ospf_flood.specs.Lists.{OnPort, tick_of}
-use Rattle.ospf_flood.specs.Stub.{is_well_formed}
+use Rattle.ospf_wire.specs.Reading.{is_well_formed}
 
 -- an age above 3,600 is taken as 3,600
 abbrev pub taken : LsaHeader → LsaHeader
