@@ -1,5 +1,5 @@
 -- The table as a finite map: the list of its entries in ascending order of the networks.
-use Rattle.std.specs.Prelude.{ℕ, Bool, nat_le, if◌then◌else◌, List, [], ◌∷◌, length, map, Option, Some, None}
+use Rattle.std.specs.Prelude.{Bool, nat_le, List, length, map, Option, Some, None}
 use Rattle.std.specs.List.{list_any}
 use Rattle.std.specs.Map.{lookup, values_of}
 use Rattle.std.specs.BTreeMap.{insert_entry, is_at}
@@ -7,7 +7,6 @@ use Rattle.std.specs.declared.cmp.Ordering.{Ordering}
 use Rattle.std.specs.Ordering.{nat_cmp, ordering_then}
 use Rattle.rip_table.specs.declared.held.Held.{Held}
 use Rattle.rip_table.specs.Networks.{Network}
-use Rattle.rip_table.specs.Held.{settled}
 
 abbrev pub Routes : Type 0
 Routes = List (Network × Held)

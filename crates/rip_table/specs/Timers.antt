@@ -1,5 +1,5 @@
 -- Timeout and garbage collection (RFC 2453 section 3.8), and a port that went down.
-use Rattle.std.specs.Prelude.{ℕ, not, if◌then◌else◌, List, filter}
+use Rattle.std.specs.Prelude.{ℕ, not, if◌then◌else◌, filter}
 use Rattle.rip_table.specs.declared.held.Held.{Held}
 use Rattle.rip_table.specs.Held.{lost, is_lost_via, is_timed_out, is_gone}
 use Rattle.rip_table.specs.Routes.{Routes, all_changed}

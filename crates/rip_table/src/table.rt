@@ -4,7 +4,7 @@ ghost use Rattle.std.specs.Prelude.{◌≡◌, ◌↔◌, ◌≤◌, ◌≢◌, 
 ghost use Rattle.std.specs.Map.{keys_of};
 ghost use Rattle.std.specs.List.Sorted.{IsStrictlySortedBy};
 ghost use Rattle.rip_table.specs.Held.{settled};
-ghost use Rattle.rip_table.specs.Networks.{Network, is_network, told_network};
+ghost use Rattle.rip_table.specs.Networks.{Network, told_network};
 ghost use Rattle.rip_table.specs.Own.{with_own, without_own};
 ghost use Rattle.rip_table.specs.Reply.{entries_of};
 ghost use Rattle.rip_table.specs.Response.{metric_by, route_after, told};
@@ -107,10 +107,10 @@ impl Table {
         self.routes == other.routes
     }
 
-    /// Takes an entry of a response that came on this port of this cost (RFC 2453 section 3.9.2). An entry
-    /// that is no valid route changes nothing. Of the others the route to the entry's network alone
-    /// changes: one that is new or shorter is taken, one of the same port is followed. The table takes
-    /// memory for a network alone that it adds; after `NoMemory` it is as before.
+    /// Takes an entry of a response that came on this port, whose cost is 1 to 16 (RFC 2453 section 3.9.2).
+    /// An entry that is no valid route changes nothing. Of the others the route to the entry's network
+    /// alone changes: one that is new or shorter is taken, one of the same port is followed. The table
+    /// takes memory only for a network that it adds; after `NoMemory` it is as before.
     pub fn response(
         &mut self,
         port: u8,
@@ -118,7 +118,6 @@ impl Table {
         entry: &Entry,
         now: u32,
     ) -> Result<(), AllocError>
-        requires { (1 ≤ cost) × (cost ≤ 16) }
         ensures ok { OnOk result (self.new ≡ told port cost entry.now now self.old) }
         ensures route { OnOk result (IfSome (told_network entry.now) (λ n. held_at self.new n
             ≡ route_after (is_full self.old) port entry.now.tag (metric_by cost entry.now) now (held_at self.old n))) }
@@ -131,15 +130,13 @@ impl Table {
         hear(&mut self.routes, network, port, cost, entry, now)
     }
 
-    /// Sets a network of the router's own to this metric. It counts as changed unless it was own with that
-    /// metric. After `NoMemory` the table is as before.
-    pub fn connect(&mut self, address: u32, len: u8, cost: u8, now: u32) -> Result<(), AllocError>
-        requires cost { (1 ≤ cost) × (cost ≤ 16) }
-        requires network { IsTrue (is_network address len) }
-        ensures ok { OnOk result (self.new ≡ with_own self.old address len cost now) }
+    /// Sets a network of the router's own to this metric, which is 1 to 16. It is marked as changed, but
+    /// where it was own with that metric the mark stays. After `NoMemory` the table is as before.
+    pub fn connect(&mut self, address: u32, len: u8, metric: u8, now: u32) -> Result<(), AllocError>
+        ensures ok { OnOk result (self.new ≡ with_own self.old address len metric now) }
         ensures err { OnErr result (self.new ≡ self.old) }
     {
-        connect(&mut self.routes, (address, len), cost, now)
+        connect(&mut self.routes, (address, len), metric, now)
     }
 
     /// Begins the deletion of a network of the router's own. Nothing happens where it isn't own, can't be

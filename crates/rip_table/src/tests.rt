@@ -346,6 +346,22 @@ fn an_update_poisons_the_routes_of_its_port(rt: HostRuntime) -> Result<(), Fail>
 }
 
 #[test]
+fn nothing_is_added_to_a_full_table(rt: HostRuntime) -> Result<(), Fail> {
+    let mut table = Table::new(rt.alloc());
+    for address in 0..65_535 {
+        table.connect(address, 32, 1, 0)?;
+    }
+    assert_eq!(rt; table.len(), 65_535);
+    table.connect(ADDRESS, 16, 1, 1)?;
+    table.response(0, 1, &entry(1), 50)?;
+    assert_eq!(rt; table.get(ADDRESS, 16), None);
+    table.connect(7, 32, 2, 1)?;
+    assert_eq!(rt; table.get(7, 32).map(|held| held.metric), Some(2));
+    assert_eq!(rt; table.len(), 65_535);
+    Ok(())
+}
+
+#[test]
 fn masks_and_lengths(rt: HostRuntime) {
     let masks = [
         (0, 0),

@@ -1,7 +1,7 @@
 use Rattle.std.proofs.Common.{◌≡◌, ◌==◌, ◌≢◌, ℕ, Bool, true, false, cond, Option, Some, None, refl, sym, ap, ◌∙◌}
 use Rattle.std.specs.Int.{w32, leading_ones}
 use Rattle.std.proofs.lemmas.Bool.{eq-eqb, eqb-true}
-use Rattle.rip_table.specs.Networks.{mask_of, mask_len}
+use Rattle.rip_table.specs.Networks.{mask_of}
 use Rattle.rip_table.proofs.NetworkLaws.{len_is}
 use Rattle.rip_table.proofs.networks.mask_len.Goals as goal
 
