@@ -10,6 +10,14 @@ learnt port tag metric now = record { tag = tag; metric = metric; via = Some por
 abbrev pub is_reachable : Held → Bool
 is_reachable h = nat_lt h.metric 16
 
+-- a network of the router's own
+abbrev pub is_own : Held → Bool
+is_own h = not (is_some h.via)
+
+-- a network of the router's own that can be reached
+abbrev pub is_current : Held → Bool
+is_current h = is_own h && is_reachable h
+
 -- the route's deletion begins now
 abbrev pub lost : ℕ → Held → Held
 lost now h = record h { metric = 16; time = now; changed = true }
@@ -21,10 +29,6 @@ refreshed now h = record h { time = now }
 -- it isn't marked as changed
 abbrev pub settled : Held → Held
 settled h = record h { changed = false }
-
--- a network of the router's own
-abbrev pub is_own : Held → Bool
-is_own h = not (is_some h.via)
 
 abbrev via_is : ℕ → Option ℕ → Bool
 via_is port None = false

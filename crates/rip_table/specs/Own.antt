@@ -1,7 +1,8 @@
 -- The router's own networks.
-use Rattle.std.specs.Prelude.{ℕ, ◌==◌, Bool, true, not, ◌||◌, ◌&&◌, if◌then◌else◌, Option, Some, None, option_map}
+use Rattle.std.specs.Prelude.{ℕ, ◌==◌, Bool, true, not, ◌||◌, if◌then◌else◌, length, filter, Option, Some, None, option_map}
+use Rattle.std.specs.Map.{values_of}
 use Rattle.rip_table.specs.declared.held.Held.{Held}
-use Rattle.rip_table.specs.Held.{lost, is_own, is_reachable}
+use Rattle.rip_table.specs.Held.{lost, is_own, is_current}
 use Rattle.rip_table.specs.Routes.{Routes, held_at, is_full, put}
 
 -- an own network of this metric
@@ -16,7 +17,7 @@ connected full metric now (Some h) = Some (own metric now (not (is_own h) || not
 
 -- an own network that can be reached is no more
 abbrev pub withdrawn : ℕ → Held → Held
-withdrawn now h = if is_own h && is_reachable h then lost now h else h
+withdrawn now h = if is_current h then lost now h else h
 
 abbrev pub with_own : Routes → ℕ → ℕ → ℕ → ℕ → Routes
 with_own routes address len metric now =
@@ -24,3 +25,7 @@ with_own routes address len metric now =
 
 abbrev pub without_own : Routes → ℕ → ℕ → ℕ → Routes
 without_own routes address len now = put routes (address, len) (option_map (withdrawn now) (held_at routes (address, len)))
+
+-- how many own networks can be reached
+abbrev pub own_count : Routes → ℕ
+own_count routes = length (filter is_current (values_of routes))

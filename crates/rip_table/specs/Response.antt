@@ -2,7 +2,7 @@
 use Rattle.std.specs.Prelude.{ℕ, ◌+◌, ◌==◌, Bool, not, ◌&&◌, nat_lt, min, if◌then◌else◌, Option, Some, None}
 use Rattle.rip_wire.specs.declared.entry.Entry.{Entry}
 use Rattle.rip_table.specs.declared.held.Held.{Held}
-use Rattle.rip_table.specs.Held.{learnt, lost, refreshed, is_own, is_reachable, is_via}
+use Rattle.rip_table.specs.Held.{learnt, lost, refreshed, is_current, is_via}
 use Rattle.rip_table.specs.Networks.{Network, told_network}
 use Rattle.rip_table.specs.Routes.{Routes, held_at, is_full, put}
 
@@ -14,7 +14,7 @@ metric_by cost e = min 16 (e.metric + cost)
 abbrev pub revised : ℕ → ℕ → ℕ → ℕ → Held → Held
 revised port tag m now h =
     -- an own network that can be reached
-    if is_own h && is_reachable h then h
+    if is_current h then h
     -- told on the port by which the route goes: the same metric, another one, infinity
     else if is_via port h && m == h.metric && nat_lt m 16 then refreshed now h
     else if is_via port h && m == h.metric then h

@@ -1,7 +1,7 @@
 //! A route that is held.
 
 ghost use Rattle.std.specs.Prelude.{◌≡◌};
-ghost use Rattle.rip_table.specs.Held.{is_gone, is_lost_via, is_reachable, is_timed_out, is_via, learnt, lost, refreshed, settled};
+ghost use Rattle.rip_table.specs.Held.{is_current, is_gone, is_lost_via, is_reachable, is_timed_out, is_via, learnt, lost, refreshed, settled};
 ghost use Rattle.rip_table.specs.Own.{withdrawn};
 
 /// The metric of a network that can't be reached (RFC 2453 section 3.4).
@@ -50,6 +50,13 @@ impl Held {
         self.metric < INFINITY
     }
 
+    /// Whether it is a network of the router's own that can be reached.
+    pub fn is_current(&self) -> bool
+        ensures { result ≡ is_current self.now }
+    {
+        self.via.is_none() && self.is_reachable()
+    }
+
     /// Whether it goes by this port.
     pub fn is_via(&self, port: u8) -> bool
         ensures { result ≡ is_via port self.now }
@@ -83,7 +90,7 @@ impl Held {
     pub fn withdrawn(self, now: u32) -> Held
         ensures { result ≡ withdrawn now self }
     {
-        if self.via.is_none() && self.is_reachable() {
+        if self.is_current() {
             self.lost(now)
         } else {
             self

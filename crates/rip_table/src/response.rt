@@ -22,7 +22,7 @@ fn revised(port: u8, tag: u16, metric: u8, now: u32, held: Held) -> Held
     ensures { result ≡ revised port tag metric now held }
 {
     let told = Held::learnt(port, tag, metric, now);
-    if held.via.is_none() && held.is_reachable() {
+    if held.is_current() {
         return held;
     }
     if !held.is_via(port) {

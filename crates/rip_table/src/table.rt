@@ -5,7 +5,7 @@ ghost use Rattle.std.specs.Map.{keys_of};
 ghost use Rattle.std.specs.List.Sorted.{IsStrictlySortedBy};
 ghost use Rattle.rip_table.specs.Held.{settled};
 ghost use Rattle.rip_table.specs.Networks.{Network, told_network};
-ghost use Rattle.rip_table.specs.Own.{with_own, without_own};
+ghost use Rattle.rip_table.specs.Own.{own_count, with_own, without_own};
 ghost use Rattle.rip_table.specs.Reply.{entries_of};
 ghost use Rattle.rip_table.specs.Response.{metric_by, route_after, told};
 ghost use Rattle.rip_table.specs.Routes.{all_changed, any_changed, held_at, is_full, network_cmp, put};
@@ -88,6 +88,20 @@ impl Table {
         ensures ascending { IsStrictlySortedBy network_cmp (keys_of self.now) }
     {
         all_networks(self.alloc, &self.routes)
+    }
+
+    /// The networks and their routes, in ascending order of address and length.
+    pub fn entries(&self) -> Result<Vec<((u32, u8), Held)>, AllocError>
+        ensures { IfOk result (λ entries. entries.items ≡ self.now) }
+    {
+        all_entries(self.alloc, &self.routes)
+    }
+
+    /// How many networks of the router's own can be reached. It takes no memory.
+    pub fn own_count(&self) -> u64
+        ensures { result ≡ own_count self.now }
+    {
+        own_count(&self.routes)
     }
 
     /// An equal table.
@@ -215,6 +229,24 @@ fn all_networks(alloc: Global, routes: &Routes) -> Result<Vec<(u32, u8)>, AllocE
     ensures ascending { IsStrictlySortedBy network_cmp (keys_of routes.now.entries) }
 {
     routes.keys().copied().collect(alloc)
+}
+
+/// The networks and their routes, in ascending order.
+fn all_entries(alloc: Global, routes: &Routes) -> Result<Vec<((u32, u8), Held)>, AllocError>
+    ensures { IfOk result (λ entries. entries.items ≡ routes.now.entries) }
+{
+    let mut entries = Vec::with_capacity(alloc, routes.len())?;
+    for (network, held) in routes {
+        entries.push((*network, *held))?;
+    }
+    Ok(entries)
+}
+
+/// How many networks of the router's own can be reached.
+fn own_count(routes: &Routes) -> u64
+    ensures { result ≡ own_count routes.now.entries }
+{
+    routes.values().filter(|held| held.is_current()).count() as u64
 }
 
 /// Whether some route is marked as changed.

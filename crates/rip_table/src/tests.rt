@@ -267,7 +267,13 @@ fn own_networks_come_and_go(rt: HostRuntime) -> Result<(), Fail> {
         ..OWN
     };
     assert_eq!(rt; table.get(ADDRESS, 16).copied(), Some(other));
+    assert_eq!(rt; table.own_count(), 1);
+    assert_eq!(rt;
+        table.entries()?.as_slice(),
+        [((ADDRESS, 16), other)].as_slice()
+    );
     table.lose(ADDRESS, 16, 62);
+    assert_eq!(rt; table.own_count(), 0);
     let lost = Held {
         metric: 16,
         time: 62,
