@@ -1,9 +1,14 @@
 -- The ways and hops of one more link or router.
-use Rattle.std.proofs.Common.{◌≡◌, ℕ, zero, suc, ◌<◌, true, cond, List, [], ◌∷◌, ◌++◌, refl, sym, ap, ◌∙◌, subst, inl, inr, arith, length, get_or}
+use Rattle.std.proofs.Common.{◌≡◌, ◌≢◌, ℕ, zero, suc, ◌<◌, ◌≤◌, Option, true, cond, List, [], ◌∷◌, ◌++◌, refl, sym, ap, ◌∙◌, subst, inl, inr, arith, length, get_or}
 use Rattle.std.specs.List.{Contains, AllZip}
 use Rattle.std.specs.Ordering.{is_eq}
 use Rattle.std.specs.BTreeSet.{BTreeSet, contains, Updates}
-use Rattle.std.proofs.lemmas.Bool.{cases_order, cases_Bool, both_ways}
+use Rattle.std.specs.Prelude.{MatchOption, MatchResult, Result, Ok, Err}
+use Rattle.std.specs.Result.{result_ok}
+use Rattle.std.specs.List.Sorted.{IsBinarySearchResult}
+use Rattle.std.specs.Ordering.{nat_cmp}
+use Rattle.std.proofs.lemmas.Bool.{cases_order, cases_Bool, cases_lt, both_ways}
+use Rattle.std.proofs.lemmas.List.Sorted.{searched}
 use Rattle.std.proofs.lemmas.List.Elements.{Contains-append_left, Contains-push, Contains-push_cases}
 use Rattle.ospf_wire.specs.declared.router_lsa.RouterLink.{RouterLink}
 use Rattle.ospf_spf.specs.declared.graph.Vertex.{Vertex}
@@ -156,3 +161,23 @@ zip_push R [] [] x y a b = (b, tt)
 zip_push R [] (z ∷ ys) x y a b = absurd a
 zip_push R (z ∷ xs) [] x y a b = absurd a
 zip_push R (z ∷ xs) (w ∷ ys) x y a b = (a.0, zip_push R xs ys x y a.1 b)
+
+-- what a binary search among rising ids finds
+pub found_at : (ids : List ℕ) (id : ℕ) (r : Result ℕ ℕ) (o : Option ℕ) → AreRising ids → IsBinarySearchResult (λ y. nat_cmp y id) ids r → o ≡ result_ok r
+    → MatchOption o ((i : ℕ) → i < length ids → get_or ids i 0 ≢ id) (λ i. (i < length ids) × (get_or ids i 0 ≡ id))
+found_at ids id r o up is e = subst (λ (x : Option ℕ). MatchOption x ((i : ℕ) → i < length ids → get_or ids i 0 ≢ id) (λ i. (i < length ids) × (get_or ids i 0 ≡ id))) (sym e) (of r (searched ids id r is not_falling))
+  where
+    not_falling : (i j : ℕ) → i ≤ j → j < length ids → get_or ids i 0 ≤ get_or ids j 0
+    not_falling i j le lt =
+        elim (cases_lt i j) [
+          | inl below ↦ (let u = up i j below lt in omega arith)
+          | inr above ↦ (let same : i ≡ j = omega arith in rw same (omega arith))
+        ]
+
+    of : (x : Result ℕ ℕ) → MatchResult x (λ i. (i < length ids) × (get_or ids i 0 ≡ id)) (λ i. (i ≤ length ids) × ((k : ℕ) → k < i → get_or ids k 0 < id) × ((k : ℕ) → i ≤ k → k < length ids → id < get_or ids k 0))
+        → MatchOption (result_ok x) ((i : ℕ) → i < length ids → get_or ids i 0 ≢ id) (λ i. (i < length ids) × (get_or ids i 0 ≡ id))
+    of (Ok i) m = m
+    of (Err i) m = λ k lt same. elim (cases_lt k i) [
+      | inl below ↦ (let u = m.1 k below in omega arith)
+      | inr above ↦ (let u = m.2 k above lt in omega arith)
+    ]

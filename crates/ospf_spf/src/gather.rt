@@ -1,4 +1,4 @@
-//! The best offer of each prefix.
+//! The best offer of each network, in order.
 
 ghost use Rattle.std.specs.Prelude.{◌≡◌, ℕ, ◌+◌, ◌<◌, ◌≤◌, ◌||◌, length, bit_or, map, IfOk, OnOk};
 ghost use Rattle.std.specs.BTreeMap.{values, IsOrdered};
@@ -9,7 +9,7 @@ use crate::route::Route;
 use std::alloc::{AllocError, Global};
 use std::collections::BTreeMap;
 
-/// Of two offers of a prefix the cheaper one; at one cost, both.
+/// Of two offers of a network the cheaper one; at one cost, both with their ports joined.
 fn merge(old: &Route, new: &Route) -> Route
     requires prefix { old.now.prefix ≡ new.now.prefix }
     requires len { old.now.len ≡ new.now.len }
@@ -32,7 +32,7 @@ fn merge(old: &Route, new: &Route) -> Route
     }
 }
 
-/// The best offer of each prefix, by prefix.
+/// The best offer of each network, by prefix and length.
 fn best(alloc: Global, offers: &[Route]) -> Result<BTreeMap<(u32, u8), Route>, AllocError>
     ensures best { IfOk result (λ best. IsBest offers.now best) }
     ensures ordered { IfOk result (λ best. IsOrdered pair_cmp best) }
@@ -55,11 +55,10 @@ fn listed(alloc: Global, best: &BTreeMap<(u32, u8), Route>) -> Result<Vec<Route>
     best.values().copied().collect(alloc)
 }
 
-/// The best offer of each prefix, in order.
+/// The best offer of each network, in ascending order of prefix and length.
 pub fn gather(alloc: Global, offers: &[Route]) -> Result<Vec<Route>, AllocError>
     ensures { IfOk result (λ routes. AreGathered offers.now routes.items) }
 {
     let best = best(alloc, offers)?;
-    let routes = listed(alloc, &best)?;
-    Ok(routes)
+    listed(alloc, &best)
 }

@@ -1,4 +1,5 @@
-//! The graph by places, with the test that the other end links back.
+//! The links that lead from one vertex to another that links back (RFC 2328 section 16.1, step 2b), by the
+//! places of the vertices in the graph in place of their ids.
 
 ghost use Rattle.std.specs.Prelude.{◌≡◌, ℕ, ◌+◌, ◌*◌, ◌^◌, ◌<◌, ◌≤◌, ◌≢◌, ◌↔◌, length, slice_index, IfOk, OnOk, MatchOption, IsTrue};
 ghost use Rattle.std.specs.List.{All};
@@ -25,20 +26,7 @@ pub(crate) fn position(ids: &[u32], id: u32) -> Option<usize>
     requires { AreRising ids.now }
     ensures { MatchOption result ((i : ℕ) → i < length ids.now → slice_index ids.now i ≢ id) (λ i. (i < length ids.now) × (slice_index ids.now i ≡ id)) }
 {
-    let mut low = 0;
-    let mut high = ids.len();
-    while low < high {
-        let middle = low + (high - low) / 2;
-        if ids[middle] == id {
-            return Some(middle);
-        }
-        if ids[middle] < id {
-            low = middle + 1;
-        } else {
-            high = middle;
-        }
-    }
-    None
+    ids.binary_search(&id).ok()
 }
 
 /// The ids, place by place.
@@ -52,7 +40,7 @@ pub(crate) fn ids(alloc: Global, graph: &[Vertex]) -> Result<Vec<u32>, AllocErro
     Ok(ids)
 }
 
-/// Notes where the links of a router lead.
+/// Notes where the links of a router lead, as pairs of router ids.
 fn mark(from: u32, links: &[RouterLink], ways: &mut BTreeSet<(u32, u32)>) -> Result<(), AllocError>
     ensures { OnOk result (IsMarked from links.now ways.old ways.new) }
 {
@@ -75,7 +63,7 @@ fn ways(alloc: Global, graph: &[Vertex]) -> Result<BTreeSet<(u32, u32)>, AllocEr
     Ok(ways)
 }
 
-/// A hop to a place.
+/// A hop to a place. (The metric is passed by value, so its bound is known.)
 fn hop_to(to: usize, port: u32, metric: u16) -> Hop
     ensures hop { result ≡ record { to = to; port = port; metric = metric } }
     ensures small { metric ≤ 65535 }
@@ -83,7 +71,7 @@ fn hop_to(to: usize, port: u32, metric: u16) -> Hop
     Hop { to, port, metric }
 }
 
-/// The hop of a link, if the other end links back.
+/// The hop of a link, if it leads to a vertex that links back.
 fn hop_of(from: u32, link: &RouterLink, ids: &[u32], ways: &BTreeSet<(u32, u32)>) -> Option<Hop>
     requires { AreRising ids.now }
     ensures { MatchOption result ((h : Hop) → IsHopOf from ids.now ways.now h link.now → ⊥) (λ h. IsHopOf from ids.now ways.now h link.now × (h.metric ≤ 65535)) }

@@ -7,7 +7,7 @@
 //! | `vertices.rt` | the routers of a database, with their links |
 //! | `hops.rt` | the links that lead from one of them to another that links back |
 //! | `search.rt` | least costs: the nearest vertex that waits is settled next |
-//! | `masks.rt` | the ports by which ways of least cost begin |
+//! | `ports.rt` | the ports by which ways of least cost begin |
 //! | `offers.rt` | what stub links offer |
 //! | `gather.rt` | the best offer of each network, in order |
 //! | `graph.rt`, `route.rt` | `Vertex`, `Hop`, `Route` |
@@ -21,10 +21,9 @@ mod gather;
 mod graph;
 mod hops;
 mod laws;
-mod masks;
 mod offers;
+mod ports;
 mod route;
-
 mod search;
 mod table;
 mod vertices;
@@ -32,8 +31,8 @@ mod vertices;
 pub use graph::Vertex;
 pub use laws::one_table;
 pub use route::Route;
-pub use table::routes;
 pub use std::alloc::AllocError as NoMemory;
+pub use table::routes;
 
 #[cfg(test)]
 mod tests;

@@ -1,4 +1,5 @@
-//! What stub links offer.
+//! What stub links offer (RFC 2328 section 16.1, second stage): each of a vertex that is reached offers a
+//! route to its network.
 
 ghost use Rattle.std.specs.Prelude.{◌≡◌, ℕ, ◌+◌, ◌-◌, ◌*◌, ◌^◌, ◌<◌, ◌≤◌, ◌≢◌, length, bit_and, IfOk, OnOk, MatchOption};
 ghost use Rattle.ospf_spf.specs.declared.route.Route.{Route};
@@ -11,7 +12,7 @@ use crate::route::Route;
 use ospf_wire::RouterLink;
 use std::alloc::{AllocError, Global};
 
-/// The mask of so many ones.
+/// The contiguous mask of this length.
 fn mask_with(len: u8) -> u32
     requires { len ≤ 32 }
     ensures { result ≡ mask_of len }
@@ -19,7 +20,7 @@ fn mask_with(len: u8) -> u32
     (4294967296u64 - (1u64 << (32 - len))) as u32
 }
 
-/// How many ones a contiguous mask has.
+/// The length of a contiguous mask.
 fn mask_len(mask: u32) -> Option<u8>
     ensures { MatchOption result ((n : ℕ) → n ≤ 32 → mask ≢ mask_of n) (λ n. (n ≤ 32) × (mask ≡ mask_of n)) }
 {
@@ -87,7 +88,13 @@ pub fn offers(
     let mut offers = Vec::new(alloc);
     for (i, vertex) in graph.iter().enumerate() {
         if let Some(cost) = best[i] {
-            offer_all(vertex.links.as_slice(), cost, i == root, masks[i], &mut offers)?;
+            offer_all(
+                vertex.links.as_slice(),
+                cost,
+                i == root,
+                masks[i],
+                &mut offers,
+            )?;
         }
     }
     Ok(offers)

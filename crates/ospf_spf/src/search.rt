@@ -1,4 +1,7 @@
-//! Least costs, by settling vertices in the order of their costs.
+//! Least costs (RFC 2328 section 16.1, steps 2d and 3): the nearest of the vertices that wait is settled,
+//! and the vertices that its hops lead to wait at no more than its cost and the hop's. What waits is an
+//! ordered set of costs and places. Each vertex is settled once, at a cost of at most 65,535 for each vertex
+//! settled before it, so no cost passes 32 bits.
 
 ghost use Rattle.std.specs.Prelude.{◌≡◌, ℕ, ◌+◌, ◌*◌, ◌^◌, ◌<◌, ◌≤◌, length, slice_set, slice_index_or, true, IfOk, OnOk};
 ghost use Rattle.std.specs.List.{All};
@@ -8,7 +11,7 @@ use crate::graph::Hop;
 use std::alloc::{AllocError, Global};
 use std::collections::BTreeSet;
 
-/// Puts a cost to a vertex, if it had none or a greater one.
+/// Gives a vertex a cost, if it had none or a greater one.
 fn lower(
     to: usize,
     new: u32,
@@ -38,7 +41,7 @@ fn lower(
     Ok(())
 }
 
-/// Lowers the costs of the vertices that a row leads to.
+/// Lowers the costs of the vertices that the hops of a vertex lead to.
 fn relax(
     row: &[Hop],
     cost: u32,
@@ -59,14 +62,15 @@ fn relax(
     Ok(())
 }
 
-/// The least cost of each vertex that is reached, and these vertices by their costs.
+/// What the search finds: the least cost of each vertex, where it is reached, and the places of those
+/// vertices in the order of their costs.
 #[derive(Drop)]
 pub struct Found {
     pub best: Vec<Option<u32>>,
     pub order: Vec<usize>,
 }
 
-/// Finds the least costs from the root.
+/// Finds the least costs from the root, a place.
 pub fn least_costs(alloc: Global, hops: &[Vec<Hop>], root: usize) -> Result<Found, AllocError>
     requires size { length hops.now ≤ 65535 }
     requires root { root < length hops.now }

@@ -1,4 +1,4 @@
-//! The routes of a router.
+//! The routing table of a router (RFC 2328 section 16.1).
 
 ghost use Rattle.std.specs.Prelude.{◌≡◌, ℕ, ◌+◌, ◌<◌, ◌≤◌, length, IfOk, slice_index};
 ghost use Rattle.ospf_spf.specs.declared.graph.Vertex.{Vertex};
@@ -8,10 +8,10 @@ ghost use Rattle.ospf_spf.specs.Hops.{ids_of};
 
 use crate::gather::gather;
 use crate::graph::Vertex;
-use crate::route::Route;
 use crate::hops::{hops_of, ids, position};
-use crate::masks::first_ports;
 use crate::offers::offers;
+use crate::ports::first_ports;
+use crate::route::Route;
 use crate::search::least_costs;
 use crate::vertices::vertices;
 use ospf_lsdb::Lsdb;
@@ -28,8 +28,7 @@ fn routes_from(alloc: Global, graph: &[Vertex], root: usize) -> Result<Vec<Route
     let found = least_costs(alloc, &hops, root)?;
     let masks = first_ports(alloc, &hops, root, &found)?;
     let offered = offers(alloc, graph, root, &found.best, &masks)?;
-    let routes = gather(alloc, &offered)?;
-    Ok(routes)
+    gather(alloc, &offered)
 }
 
 /// The routes of the router `root` over these vertices.
@@ -39,13 +38,10 @@ fn routes_over(alloc: Global, graph: &[Vertex], root: u32) -> Result<Vec<Route>,
     ensures { IfOk result (λ routes. AreRoutes graph.now root routes.items) }
 {
     let ids = ids(alloc, graph)?;
-    match position(&ids, root) {
-        Some(place) => {
-            let routes = routes_from(alloc, graph, place)?;
-            Ok(routes)
-        }
-        None => Ok(Vec::new(alloc)),
-    }
+    let Some(place) = position(&ids, root) else {
+        return Ok(Vec::new(alloc));
+    };
+    routes_from(alloc, graph, place)
 }
 
 /// The routing table of the router `root` at the tick `now`: each network that some way leads to, with
@@ -57,6 +53,5 @@ pub fn routes(alloc: Global, db: &Lsdb, root: u32, now: u32) -> Result<Vec<Route
     ensures { IfOk result (λ routes. AreRoutes (graph_of now db.now) root routes.items) }
 {
     let graph = vertices(alloc, db, now)?;
-    let routes = routes_over(alloc, &graph, root)?;
-    Ok(routes)
+    routes_over(alloc, &graph, root)
 }

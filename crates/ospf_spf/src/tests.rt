@@ -10,6 +10,7 @@ use std::test::Fail;
 
 /// The network 10.0.6.0/24.
 const NET: u32 = 0x0a00_0600;
+
 const MASK_24: u32 = 0xffff_ff00;
 
 /// A point-to-point link. Port q has the data q + 1.
@@ -44,7 +45,13 @@ fn net(cost: u32, own: bool, via: u16) -> Route {
 }
 
 /// Installs a router-LSA at tick 0.
-fn add(alloc: Global, db: &mut Lsdb, id: u32, age: u16, links: &[RouterLink]) -> Result<(), NoMemory>
+fn add(
+    alloc: Global,
+    db: &mut Lsdb,
+    id: u32,
+    age: u16,
+    links: &[RouterLink],
+) -> Result<(), NoMemory>
     requires { length links.now ≤ 100 }
 {
     let head = LsaHeader {
@@ -67,7 +74,13 @@ fn square(alloc: Global, back: u16) -> Result<Lsdb, NoMemory> {
     let mut db = Lsdb::new(alloc);
     add(alloc, &mut db, 1, 0, &[to(2, 1, 10), to(4, 2, 10)])?;
     add(alloc, &mut db, 2, 0, &[to(1, 1, 10), to(3, 2, 10)])?;
-    add(alloc, &mut db, 3, 0, &[to(2, 1, back), to(4, 2, 10), stub(NET, MASK_24, 1)])?;
+    add(
+        alloc,
+        &mut db,
+        3,
+        0,
+        &[to(2, 1, back), to(4, 2, 10), stub(NET, MASK_24, 1)],
+    )?;
     add(alloc, &mut db, 4, 0, &[to(3, 1, 10), to(1, 2, 10)])?;
     Ok(db)
 }
@@ -83,9 +96,18 @@ fn table(alloc: Global, db: &Lsdb, root: u32, now: u32) -> Result<Vec<Route>, Fa
 #[test]
 fn a_square_has_two_ways_of_one_cost(rt: HostRuntime) -> Result<(), Fail> {
     let db = square(rt.alloc(), 10)?;
-    assert_eq!(rt; table(rt.alloc(), &db, 1, 0)?.as_slice(), [net(21, false, 0b11)].as_slice());
-    assert_eq!(rt; table(rt.alloc(), &db, 2, 0)?.as_slice(), [net(11, false, 0b10)].as_slice());
-    assert_eq!(rt; table(rt.alloc(), &db, 3, 0)?.as_slice(), [net(1, true, 0)].as_slice());
+    assert_eq!(rt;
+        table(rt.alloc(), &db, 1, 0)?.as_slice(),
+        [net(21, false, 0b11)].as_slice()
+    );
+    assert_eq!(rt;
+        table(rt.alloc(), &db, 2, 0)?.as_slice(),
+        [net(11, false, 0b10)].as_slice()
+    );
+    assert_eq!(rt;
+        table(rt.alloc(), &db, 3, 0)?.as_slice(),
+        [net(1, true, 0)].as_slice()
+    );
     Ok(())
 }
 
@@ -93,8 +115,14 @@ fn a_square_has_two_ways_of_one_cost(rt: HostRuntime) -> Result<(), Fail> {
 fn a_link_counts_where_the_other_end_links_back(rt: HostRuntime) -> Result<(), Fail> {
     // Router 3 doesn't link back to 2: a link of metric 0 is none.
     let db = square(rt.alloc(), 0)?;
-    assert_eq!(rt; table(rt.alloc(), &db, 1, 0)?.as_slice(), [net(21, false, 0b10)].as_slice());
-    assert_eq!(rt; table(rt.alloc(), &db, 2, 0)?.as_slice(), [net(31, false, 0b01)].as_slice());
+    assert_eq!(rt;
+        table(rt.alloc(), &db, 1, 0)?.as_slice(),
+        [net(21, false, 0b10)].as_slice()
+    );
+    assert_eq!(rt;
+        table(rt.alloc(), &db, 2, 0)?.as_slice(),
+        [net(31, false, 0b01)].as_slice()
+    );
     // Router 2 links to 1, and 1 doesn't link back.
     let mut db = Lsdb::new(rt.alloc());
     add(rt.alloc(), &mut db, 1, 0, &[stub(NET, MASK_24, 1)])?;
@@ -114,8 +142,20 @@ fn stub_links_count_with_contiguous_masks(rt: HostRuntime) -> Result<(), Fail> {
         stub(NET, 0x00ff_ffff, 1),
     ];
     add(rt.alloc(), &mut db, 1, 0, &links)?;
-    let all = Route { prefix: 0, len: 0, cost: 9, own: true, via: 0 };
-    let host = Route { prefix: 0x0a00_0601, len: 32, cost: 7, own: true, via: 0 };
+    let all = Route {
+        prefix: 0,
+        len: 0,
+        cost: 9,
+        own: true,
+        via: 0,
+    };
+    let host = Route {
+        prefix: 0x0a00_0601,
+        len: 32,
+        cost: 7,
+        own: true,
+        via: 0,
+    };
     assert_eq!(rt;
         table(rt.alloc(), &db, 1, 0)?.as_slice(),
         [all, net(0, true, 0), host].as_slice()
@@ -128,18 +168,45 @@ fn stubs_that_differ_past_the_mask_are_one_network(rt: HostRuntime) -> Result<()
     let mut db = Lsdb::new(rt.alloc());
     let links = [stub(NET + 1, MASK_24, 5), stub(NET + 2, MASK_24, 3)];
     add(rt.alloc(), &mut db, 1, 0, &links)?;
-    assert_eq!(rt; table(rt.alloc(), &db, 1, 0)?.as_slice(), [net(3, true, 0)].as_slice());
+    assert_eq!(rt;
+        table(rt.alloc(), &db, 1, 0)?.as_slice(),
+        [net(3, true, 0)].as_slice()
+    );
     Ok(())
 }
 
 #[test]
 fn an_own_stub_of_the_same_cost_is_told(rt: HostRuntime) -> Result<(), Fail> {
     let mut db = Lsdb::new(rt.alloc());
-    add(rt.alloc(), &mut db, 1, 0, &[to(2, 1, 10), stub(NET, MASK_24, 11)])?;
-    add(rt.alloc(), &mut db, 2, 0, &[to(1, 1, 10), stub(NET, MASK_24, 1)])?;
-    assert_eq!(rt; table(rt.alloc(), &db, 1, 0)?.as_slice(), [net(11, true, 0b1)].as_slice());
-    add(rt.alloc(), &mut db, 1, 0, &[to(2, 1, 10), stub(NET, MASK_24, 12)])?;
-    assert_eq!(rt; table(rt.alloc(), &db, 1, 0)?.as_slice(), [net(11, false, 0b1)].as_slice());
+    add(
+        rt.alloc(),
+        &mut db,
+        1,
+        0,
+        &[to(2, 1, 10), stub(NET, MASK_24, 11)],
+    )?;
+    add(
+        rt.alloc(),
+        &mut db,
+        2,
+        0,
+        &[to(1, 1, 10), stub(NET, MASK_24, 1)],
+    )?;
+    assert_eq!(rt;
+        table(rt.alloc(), &db, 1, 0)?.as_slice(),
+        [net(11, true, 0b1)].as_slice()
+    );
+    add(
+        rt.alloc(),
+        &mut db,
+        1,
+        0,
+        &[to(2, 1, 10), stub(NET, MASK_24, 12)],
+    )?;
+    assert_eq!(rt;
+        table(rt.alloc(), &db, 1, 0)?.as_slice(),
+        [net(11, false, 0b1)].as_slice()
+    );
     Ok(())
 }
 
@@ -147,10 +214,25 @@ fn an_own_stub_of_the_same_cost_is_told(rt: HostRuntime) -> Result<(), Fail> {
 fn parallel_links_and_data_that_are_no_port(rt: HostRuntime) -> Result<(), Fail> {
     let mut db = Lsdb::new(rt.alloc());
     // Ports 0 and 15 are cheapest; data 0 and 17 are no ports; port 1 is dearer.
-    let links = [to(2, 1, 4), to(2, 16, 4), to(2, 0, 4), to(2, 17, 4), to(2, 2, 5)];
+    let links = [
+        to(2, 1, 4),
+        to(2, 16, 4),
+        to(2, 0, 4),
+        to(2, 17, 4),
+        to(2, 2, 5),
+    ];
     add(rt.alloc(), &mut db, 1, 0, &links)?;
-    add(rt.alloc(), &mut db, 2, 0, &[to(1, 9, 1), stub(NET, MASK_24, 1)])?;
-    assert_eq!(rt; table(rt.alloc(), &db, 1, 0)?.as_slice(), [net(5, false, 0x8001)].as_slice());
+    add(
+        rt.alloc(),
+        &mut db,
+        2,
+        0,
+        &[to(1, 9, 1), stub(NET, MASK_24, 1)],
+    )?;
+    assert_eq!(rt;
+        table(rt.alloc(), &db, 1, 0)?.as_slice(),
+        [net(5, false, 0x8001)].as_slice()
+    );
     Ok(())
 }
 
@@ -169,7 +251,13 @@ fn without_the_own_lsa_there_is_no_route(rt: HostRuntime) -> Result<(), Fail> {
 fn an_lsa_counts_until_the_greatest_age(rt: HostRuntime) -> Result<(), Fail> {
     let mut db = Lsdb::new(rt.alloc());
     add(rt.alloc(), &mut db, 1, 0, &[to(2, 3, 65_535)])?;
-    add(rt.alloc(), &mut db, 2, 3_590, &[to(1, 1, 1), stub(NET, MASK_24, 65_535)])?;
+    add(
+        rt.alloc(),
+        &mut db,
+        2,
+        3_590,
+        &[to(1, 1, 1), stub(NET, MASK_24, 65_535)],
+    )?;
     assert_eq!(rt;
         table(rt.alloc(), &db, 1, 9)?.as_slice(),
         [net(131_070, false, 0b100)].as_slice()

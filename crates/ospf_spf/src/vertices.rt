@@ -6,7 +6,7 @@ ghost use Rattle.ospf_lsdb.specs.Database.{kept_at};
 ghost use Rattle.ospf_spf.specs.Graph.{is_current, vertex_of, graph_of, AreInOrder};
 
 use crate::graph::Vertex;
-use ospf_lsdb::{Kept, Lsdb, LsaKey};
+use ospf_lsdb::{Kept, LsaKey, Lsdb};
 use ospf_wire::{MAX_AGE, router_links};
 use std::alloc::{AllocError, Global};
 
@@ -36,12 +36,7 @@ fn vertex_of(
 }
 
 /// The vertex of the LSA at a key, if there is one.
-fn vertex_at(
-    alloc: Global,
-    db: &Lsdb,
-    now: u32,
-    key: &LsaKey,
-) -> Result<Option<Vertex>, AllocError>
+fn vertex_at(alloc: Global, db: &Lsdb, now: u32, key: &LsaKey) -> Result<Option<Vertex>, AllocError>
     ensures { IfOk result (λ found. found ≡ option_and_then (λ k. vertex_of now (key.now, k)) (kept_at db.now key.now)) }
 {
     match db.get(key) {

@@ -3,7 +3,6 @@ use Rattle.std.proofs.lemmas.List.{take_more, take_all}
 use Rattle.ospf_spf.specs.declared.graph.Vertex.{Vertex}
 use Rattle.ospf_wire.specs.declared.router_lsa.RouterLink.{RouterLink}
 use Rattle.ospf_spf.specs.Hops.{AreWays, IsMarked}
-
 use Rattle.ospf_spf.proofs.Hopping.{ways_push}
 use Rattle.ospf_spf.proofs.hops.ways.Goals as goal
 

@@ -1,6 +1,5 @@
 use Rattle.std.proofs.Common.{take}
 use Rattle.ospf_spf.specs.Hops.{AreWays}
-use Rattle.ospf_spf.specs.declared.graph.Vertex.{Vertex}
 use Rattle.ospf_spf.proofs.hops.ways.Given as goal
 
 abbrev pub invariant-loop-vertex : goal.invariant-loop-vertex

@@ -1,8 +1,11 @@
-use Rattle.std.proofs.Common.{ℕ, Option, List, length, sym, ap, ◌∙◌, subst, arith}
+use Rattle.std.proofs.Common.{ℕ, Option, List, length, get_or, sym, ap, ◌∙◌, subst, arith}
 use Rattle.std.specs.Global.{Vec}
 use Rattle.ospf_spf.specs.declared.graph.Hop.{Hop}
 use Rattle.ospf_spf.specs.declared.route.Route.{Route}
 use Rattle.ospf_spf.specs.Search.{label, AreHops, IsLeast}
+use Rattle.std.proofs.lemmas.Result.{IfOk-weaker}
+use Rattle.ospf_spf.specs.Routes.{AreRoutes}
+use Rattle.ospf_spf.specs.Hops.{ids_of}
 use Rattle.ospf_spf.specs.Ports.{AreVia}
 use Rattle.ospf_spf.specs.Offers.{AreOffered, AreGathered}
 use Rattle.ospf_spf.proofs.Translating.{hops_length, are_hops}
@@ -64,10 +67,11 @@ returns c =
     let order = c.in_ok-found.found.order.items in
     let masks = c.in_ok-masks.masks.items in
     let os = c.in_ok-offered.offered.items in
-    let rs = c.in_ok-routes.routes.items in
     let least : IsLeast H root (label best) order (length H) = subst (λ (hs : List (Vec Hop)). IsLeast hs root (label best) order (length hs)) c.deref.ensures.value c.in_ok-found.ensures.least in
     let via : AreVia H root (label best) masks = subst (λ (hs : List (Vec Hop)). AreVia hs root (label best) masks) c.deref-2.ensures.value c.in_ok-masks.ensures.via in
     let o1 : AreOffered g root (label best) c.deref-4.result.now (length g) os = subst (λ (xs : List (Option ℕ)). AreOffered g root (label xs) c.deref-4.result.now (length g) os) c.deref-3.ensures.value c.in_ok-offered.ensures in
     let o2 : AreOffered g root (label best) masks (length g) os = subst (λ (xs : List ℕ). AreOffered g root (label best) xs (length g) os) c.deref-4.ensures.value o1 in
-    let r : AreGathered os rs = subst (λ (xs : List Route). AreGathered xs rs) c.deref-5.ensures.value c.in_ok-routes.ensures in
-    answer g H root c.requires.order a c.requires.root (label best) order masks os rs least via o2 r
+    IfOk-weaker c.gather.result _ (λ (v : Vec Route). AreRoutes g (get_or (ids_of g) root 0) v.items)
+    (λ v r. let gathered : AreGathered os v.items = subst (λ (xs : List Route). AreGathered xs v.items) c.deref-5.ensures.value r in
+    answer g H root c.requires.order a c.requires.root (label best) order masks os v.items least via o2 gathered)
+    c.gather.ensures

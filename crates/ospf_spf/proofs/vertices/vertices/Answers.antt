@@ -1,7 +1,6 @@
-use Rattle.std.proofs.Common.{◌≡◌, ℕ, ◌+◌, ◌≤◌, take, Some, None, Option, List, [], ◌∷◌, ◌++◌, append-nil, length, refl, sym, ap, ◌∙◌, subst, arith}
+use Rattle.std.proofs.Common.{◌≡◌, ◌+◌, ◌≤◌, take, Option, List, [], ◌∷◌, ◌++◌, append-nil, length, sym, ap, ◌∙◌, subst, arith}
 use Rattle.std.specs.List.{cons_option}
 use Rattle.std.specs.Global.{Vec}
-use Rattle.std.specs.Map.{keys_of}
 use Rattle.std.proofs.lemmas.List.{take_all}
 use Rattle.std.proofs.lemmas.Map.Entries.{length-keys_of}
 use Rattle.ospf_lsdb.specs.declared.key.LsaKey.{LsaKey}

@@ -6,8 +6,8 @@ use Rattle.ospf_spf.specs.Ports.{IsPassed}
 use Rattle.std.proofs.Common.{bit_or}
 use Rattle.std.specs.Int.{bit_at}
 use Rattle.ospf_spf.proofs.Passing.{passed_push, passed_skip, more_bits}
-use Rattle.ospf_spf.proofs.masks.pass.Goals as goal
-use Rattle.ospf_spf.proofs.masks.pass.Goals.{in-Some+then-least-cost, in-Some+else-least-cost, in_default}
+use Rattle.ospf_spf.proofs.ports.pass.Goals as goal
+use Rattle.ospf_spf.proofs.ports.pass.Goals.{in-Some+then-least-cost, in-Some+else-least-cost, in_default}
 
 pub loop-hop-preserved : goal.loop-hop-preserved
 loop-hop-preserved c =

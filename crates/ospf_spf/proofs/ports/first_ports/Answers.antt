@@ -8,8 +8,8 @@ use Rattle.ospf_spf.specs.Search.{label, row}
 use Rattle.ospf_spf.specs.Ports.{IsPassed, AreViaFrom}
 use Rattle.ospf_spf.proofs.Passing.{via_step, all_via, no_via}
 use Rattle.ospf_spf.proofs.Starting.{label_in, row_is, written, at_default, zeros}
-use Rattle.ospf_spf.proofs.masks.first_ports.Goals as goal
-use Rattle.ospf_spf.proofs.masks.first_ports.Goals.{in-Some, in_default}
+use Rattle.ospf_spf.proofs.ports.first_ports.Goals as goal
+use Rattle.ospf_spf.proofs.ports.first_ports.Goals.{in-Some, in_default}
 
 pub loop-vertex-init : goal.loop-vertex-init
 loop-vertex-init c =

@@ -1,7 +1,7 @@
 use Rattle.std.proofs.Common.{◌≡◌, length}
 use Rattle.ospf_spf.specs.Search.{label}
 use Rattle.ospf_spf.specs.Ports.{AreViaFrom}
-use Rattle.ospf_spf.proofs.masks.first_ports.Given as goal
+use Rattle.ospf_spf.proofs.ports.first_ports.Given as goal
 
 abbrev pub invariant-loop-vertex : goal.invariant-loop-vertex
 invariant-loop-vertex l = record {

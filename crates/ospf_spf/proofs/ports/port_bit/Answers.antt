@@ -4,7 +4,7 @@ use Rattle.std.proofs.lemmas.Bool.{cases_eq}
 use Rattle.std.proofs.Math.Pow.{pow-lt}
 use Rattle.std.proofs.Math.Nat.{mod-eq_of_lt}
 use Rattle.std.proofs.lemmas.Nat.Bits.{bit_at-pow_same, bit_at-pow_other}
-use Rattle.ospf_spf.proofs.masks.port_bit.Goals as goal
+use Rattle.ospf_spf.proofs.ports.port_bit.Goals as goal
 
 pub returns-then-port-le16 : goal.returns-then-port-le16
 returns-then-port-le16 c q l =

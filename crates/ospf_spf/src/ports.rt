@@ -1,4 +1,6 @@
-//! The ports that begin the least walks, vertex by vertex in the order of their costs.
+//! The ports by which ways of least cost begin (RFC 2328 section 16.1.1), as masks with bit q for port q.
+//! Metrics are above 0, so the last hop of a way of least cost comes from a vertex of less cost: gone over
+//! in the order of their costs, a vertex's mask is whole when its turn comes.
 
 ghost use Rattle.std.specs.Prelude.{◌≡◌, ℕ, ◌+◌, ◌*◌, ◌^◌, ◌<◌, ◌≤◌, ◌↔◌, length, slice_set, slice_index, bit_or, Bool, IfOk, OnOk};
 ghost use Rattle.std.specs.List.{All};
@@ -21,14 +23,14 @@ fn port_bit(port: u32) -> u16
     }
 }
 
-/// The ports of the walks that go on by a hop.
+/// The ports of the ways that go on by a hop: at the root its own port, else those of the vertex.
 fn carried(at_root: bool, ports: u16, port: u32) -> u16
     ensures { (q : ℕ) → q < 16 → (bit_at result q ≡ 1) ↔ Carries at_root ports port q }
 {
     if at_root { port_bit(port) } else { ports }
 }
 
-/// Adds the ports that go on by the hops of a row.
+/// Adds the ports of a vertex at a cost to each vertex that its hops reach at least cost.
 fn pass(row: &[Hop], cost: u32, at_root: bool, ports: u16, best: &[Option<u32>], masks: &mut [u16])
     requires cost { cost + 65535 < 2 ^ 32 }
     requires row { All (λ h. h.to < length masks.old) row.now }
@@ -44,7 +46,7 @@ fn pass(row: &[Hop], cost: u32, at_root: bool, ports: u16, best: &[Option<u32>],
     }
 }
 
-/// The ports that begin the least walks to each vertex.
+/// The ports by which the ways of least cost to each vertex begin.
 pub fn first_ports(
     alloc: Global,
     hops: &[Vec<Hop>],
