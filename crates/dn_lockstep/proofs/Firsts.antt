@@ -1,10 +1,14 @@
--- The least of some events, and the top of a heap in the reversed order.
-use Rattle.std.proofs.Common.{◌≡◌, ◌<◌, true, false, List, [], ◌∷◌, length, get_or, refl, sym, ◌∙◌, ap, subst, arith, map}
-use Rattle.std.specs.List.{AllByRecursion}
+-- The least of some events, and the order of events decided by its first parts.
+use Rattle.std.proofs.Common.{◌≡◌, ℕ, ◌+◌, ◌<◌, ◌≤◌, true, false, Some, List, [], ◌∷◌, ◌++◌, length, take, get_or, refl, sym, ◌∙◌, ap, subst, arith, map}
+use Rattle.std.specs.Prelude.{slice_get}
+use Rattle.std.specs.List.{AllByRecursion, remove}
 use Rattle.std.specs.List.Sorted.{IsPermutation}
-use Rattle.std.proofs.lemmas.List.Sorted.{IsPermutation-refl, IsPermutation-map}
-use Rattle.std.specs.BinaryHeap.{IsUpperBound}
-use Rattle.std.specs.Ordering.{ordering_then, nat_cmp}
+use Rattle.std.proofs.lemmas.Bool.{false≢true}
+use Rattle.std.proofs.lemmas.Option.{slice_get_read, slice_get_within, get_or_from_slice_get}
+use Rattle.std.proofs.lemmas.List.{take_more, take_all, map-append}
+use Rattle.std.proofs.lemmas.List.Sorted.{length_permutation, IsPermutation-map, IsPermutation-remove}
+use Rattle.std.specs.Ordering.{ordering_then, nat_cmp, is_lt, is_gt}
+use Rattle.std.specs.Cmp.{upto, tied_itself}
 use Rattle.std.specs.declared.cmp.Ordering.{Ordering}
 use Rattle.std.specs.declared.cmp.Ordering.TheVariants.{Less, Equal, Greater}
 use Rattle.dn_guest.specs.InputOrder.{input_cmp, input_numbers}
@@ -12,32 +16,28 @@ use Rattle.std.specs.Cmp.Lexicographic.{slice_cmp}
 use Rattle.dn_model.proofs.EventOrder.{event_cmp_is}
 use Rattle.dn_model.specs.declared.event.Event.{Event}
 use Rattle.dn_model.specs.Order.{key_cmp, event_cmp, event_total}
-use Rattle.dn_lists.proofs.Sorting.{turn, count, count_permutation}
-use Rattle.dn_lockstep.specs.declared.queue.Queued.{Queued}
+use Rattle.dn_model.proofs.Rows.{all_permutation}
+use Rattle.dn_lists.proofs.Lists.{all_weaker, all_append}
+use Rattle.dn_lists.specs.InOrder.{in_order}
+use Rattle.dn_lists.proofs.Sorting.{Rises, turn, permutation_in_order, rises_in_order}
+use Rattle.dn_lockstep.specs.declared.queued.Queued.{Queued}
 use Rattle.dn_lockstep.specs.Least.{IsUpTo, IsLeast}
-use Rattle.dn_lockstep.specs.Queues.{later_cmp, queued_events}
-
-pub first_from_bound : (top : Queued) (items : List Queued) → IsUpperBound later_cmp top items → IsUpTo top.event (queued_events items)
-first_from_bound top [] b = tt
-first_from_bound top (x ∷ xs) b = (turn event_cmp event_total x.event top.event ∙ b.0, first_from_bound top xs b.1)
-
-pub least_at_top : (items : List Queued) (top : Queued) → 0 < length items → top ≡ get_or items 0 top → IsUpperBound later_cmp top items → IsLeast top.event (queued_events items)
-least_at_top [] top l e b = absurd (omega arith)
-least_at_top (x ∷ xs) top l e b = record {
-  rest = queued_events xs;
-  among = subst (λ (z : Queued). IsPermutation (queued_events (x ∷ xs)) (z.event ∷ queued_events xs)) (sym e) (IsPermutation-refl (queued_events (x ∷ xs)));
-  first = first_from_bound top xs b.1;
-}
+use Rattle.dn_lockstep.specs.Queues.{queued_events}
 
 pub moved_events : (xs ys : List Queued) → IsPermutation xs ys → IsPermutation (queued_events xs) (queued_events ys)
 moved_events xs ys h = IsPermutation-map (λ q. q.event) xs ys h
 
--- where there is a least event, some event waits
-pub least_waits : (e : Event) (events : List Event) → IsLeast e events → events ≡ [] → ⊥
-least_waits e events least none =
-    let a = count_permutation (λ w. true) events (e ∷ least.rest) least.among in
-    let b : count (λ w. true) events ≡ 0 = ap (count (λ w. true)) none in
-    omega (arith, a, b)
+-- where some events wait, one of them is the least
+pub some_least : (events : List Event) → (events ≡ [] → ⊥) → (e : Event) × IsLeast e events
+some_least events some = first (in_order event_cmp events) (permutation_in_order event_cmp events) (rises_in_order event_cmp event_total events)
+  where
+    first : (sorted : List Event) → IsPermutation events sorted → Rises event_cmp sorted → (e : Event) × IsLeast e events
+    first [] moves rises = absurd (some (no_elements events (sym (length_permutation events [] moves))))
+      where
+        no_elements : (xs : List Event) → length xs ≡ 0 → xs ≡ []
+        no_elements [] l = refl
+        no_elements (x ∷ xs) l = absurd (omega (arith, l))
+    first (x ∷ xs) moves rises = (x, record { rest = xs; among = moves; first = rises.0 })
 
 -- where the keys differ, they decide
 pub keys_decide : (x y : Event) → (key_cmp x.key y.key ≡ Equal → ⊥) → key_cmp x.key y.key ≡ event_cmp x y
@@ -64,3 +64,52 @@ unfolding event_cmp
 sums_decide x y same differ =
     let rest : Ordering = ordering_then (nat_cmp x.key.sum y.key.sum) (slice_cmp nat_cmp (x.key.class ∷ x.key.tie ∷ x.key.origin ∷ x.key.seq ∷ x.router ∷ input_numbers x.input) (y.key.class ∷ y.key.tie ∷ y.key.origin ∷ y.key.seq ∷ y.router ∷ input_numbers y.input)) in
     then_decides (nat_cmp x.key.sum y.key.sum) _ differ ∙ ap (λ r. ordering_then r rest) (sym same)
+
+-- ---- the least of some, found one after another
+
+-- among the first n of these, which q is one of, none stands before q
+abbrev pub IsLeastSoFar : List Queued → ℕ → Queued → Type 0
+IsLeastSoFar items n q = ((i : ℕ) × (slice_get items i ≡ Some q)) × IsUpTo q.event (queued_events (take n items))
+
+events_more : (items : List Queued) (n : ℕ) (x : Queued) → n < length items → x ≡ get_or items n x → queued_events (take (n + 1) items) ≡ queued_events (take n items) ++ x.event ∷ []
+events_more items n x l is =
+    let cut : take (n + 1) items ≡ take n items ++ x ∷ [] = take_more items n x l ∙ ap (λ y. take n items ++ y ∷ []) (sym is) in
+    ap queued_events cut ∙ map-append (λ (q : Queued). q.event) (take n items) (x ∷ [])
+
+-- the next one stands before the least so far
+pub new_least : (items : List Queued) (n : ℕ) (x q : Queued) → n < length items → x ≡ get_or items n x → is_lt (event_cmp x.event q.event) ≡ true → IsLeastSoFar items n q → IsLeastSoFar items (n + 1) x
+new_least items n x q l is before so =
+    let le : is_gt (event_cmp x.event q.event) ≡ false = lt_not_gt (event_cmp x.event q.event) before in (
+      (n, slice_get_read items (length items) n x refl l is),
+      subst (IsUpTo x.event) (sym (events_more items n x l is))
+          (all_append (λ w. is_gt (event_cmp x.event w) ≡ false) (queued_events (take n items)) (x.event ∷ [])
+          (all_weaker (λ w. is_gt (event_cmp q.event w) ≡ false) (λ w. is_gt (event_cmp x.event w) ≡ false) (queued_events (take n items)) (λ w h. upto event_total x.event q.event w le h) so.1)
+          (ap is_gt (tied_itself event_total x.event), tt)),
+    )
+  where
+    lt_not_gt : (r : Ordering) → is_lt r ≡ true → is_gt r ≡ false
+    lt_not_gt Less h = refl
+    lt_not_gt Equal h = refl
+    lt_not_gt Greater h = absurd (false≢true h)
+
+-- it does not
+pub same_least : (items : List Queued) (n : ℕ) (x q : Queued) → n < length items → x ≡ get_or items n x → is_lt (event_cmp x.event q.event) ≡ false → IsLeastSoFar items n q → IsLeastSoFar items (n + 1) q
+same_least items n x q l is after so = (
+  so.0,
+  subst (IsUpTo q.event) (sym (events_more items n x l is))
+      (all_append (λ w. is_gt (event_cmp q.event w) ≡ false) (queued_events (take n items)) (x.event ∷ []) so.1 (turn event_cmp event_total x.event q.event ∙ after, tt)),
+)
+
+-- after all of them
+pub least_found : (items : List Queued) (n : ℕ) (q : Queued) → length items ≤ n → IsLeastSoFar items n q → IsLeast q.event (queued_events items)
+least_found items n q all so =
+    let i = so.0.0 in
+    let within = slice_get_within items i q so.0.1 in
+    let is : q ≡ get_or items i q = sym (get_or_from_slice_get items i q q so.0.1) in
+    let moves : IsPermutation (queued_events items) (q.event ∷ queued_events (remove items i)) = moved_events items (q ∷ remove items i) (IsPermutation-remove items i q within is) in
+    let up_to : IsUpTo q.event (queued_events items) = subst (λ (xs : List Queued). IsUpTo q.event (queued_events xs)) (take_all n items all) so.1 in
+    record {
+      rest = queued_events (remove items i);
+      among = moves;
+      first = (all_permutation (λ w. is_gt (event_cmp q.event w) ≡ false) (queued_events items) (q.event ∷ queued_events (remove items i)) moves up_to).1;
+    }

@@ -78,7 +78,7 @@ in_begun e group (x ∷ xs) u l =
 pub up_to_itself : (e : Event) → is_gt (event_cmp e e) ≡ false
 up_to_itself e = ap is_gt (tied_itself event_total e)
 
-first_begun : (e : Event) (group : ℕ) (old rest : List Event) → IsPermutation old (e ∷ rest) → IsUpTo e rest → 0 < count_before group old → e.key.group < group
+pub first_begun : (e : Event) (group : ℕ) (old rest : List Event) → IsPermutation old (e ∷ rest) → IsUpTo e rest → 0 < count_before group old → e.key.group < group
 first_begun e group old rest moves first l =
     let p : Event → Bool = λ w. nat_lt w.key.group group in
     let a = before_of group old in
@@ -109,6 +109,10 @@ nothing_waits group (suc left) n queue none fronted =
     let a = before_of group queue in
     let b : count (λ w. nat_lt w.key.group group) queue ≡ 0 = ap (count (λ w. nat_lt w.key.group group)) none in
     absurd (omega (arith, a, b, fronted (omega arith)))
+
+pub none_queued : (group left n : ℕ) (queue : List Event) → queue ++ later_ticks group left n ≡ [] → queue ≡ []
+none_queued group left n [] none = refl
+none_queued group left n (x ∷ xs) none = absurd cc
 
 -- the least of a queue is in it
 pub begun_by : (e : Event) (group : ℕ) (queue : List Event) → IsLeast e queue → nat_lt e.key.group group ≡ true → 0 < count_before group queue

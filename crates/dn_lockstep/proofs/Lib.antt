@@ -1,6 +1,8 @@
 pub mod Options
 pub mod Firsts
 pub mod Groups
+pub mod Buckets
+pub mod Taking
 pub mod Queueing
 pub mod Wired
 pub mod Places

@@ -19,7 +19,7 @@ use Rattle.dn_model.proofs.EventOrder.{event_same}
 use Rattle.dn_model.proofs.Committed.{emitted_from, injected_injected}
 use Rattle.dn_model.proofs.Causes.{all_joined_below}
 use Rattle.dn_lockstep.specs.Agendas.{group_ticks, later_ticks}
-use Rattle.dn_lockstep.specs.declared.queue.Queued.{Queued}
+use Rattle.dn_lockstep.specs.declared.queued.Queued.{Queued}
 use Rattle.dn_lockstep.specs.Queues.{queued_events}
 use Rattle.dn_lockstep.specs.Running.{Running, StandsIn, first_rows, messages}
 

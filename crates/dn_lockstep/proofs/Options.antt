@@ -1,7 +1,7 @@
 -- What follows from what is said of the value in a Some, or at a None.
-use Rattle.std.proofs.Common.{◌≡◌, true, false, Option, Some, None, sym}
+use Rattle.std.proofs.Common.{◌≡◌, true, false, Option, Some, None, Result, Ok, Err, sym}
 use Rattle.std.proofs.lemmas.Bool.{false≢true}
-use Rattle.std.specs.Prelude.{IfSome, IfNone, is_some}
+use Rattle.std.specs.Prelude.{IfSome, IfNone, OnOk, OnErr, is_some}
 
 module _ {X : Type 0} where
   pub if_some_both : (r : Option X) (P Q R : X → Type 0) → IfSome r P → IfSome r Q → ((x : X) → P x → Q x → R x) → IfSome r R
@@ -12,10 +12,7 @@ module _ {X : Type 0} where
   if_none_then None P Q a h = h a
   if_none_then (Some x) P Q a h = tt
 
-  pub at_none : (r : Option X) (P : Type 0) → is_some r ≡ false → IfNone r P → P
-  at_none None P n h = h
-  at_none (Some x) P n h = absurd (false≢true (sym n))
-
-  pub at_some : (r : Option X) (Q : X → Type 0) (P : Type 0) → is_some r ≡ true → IfSome r Q → ((x : X) → Q x → P) → P
-  at_some None Q P n a h = absurd (false≢true n)
-  at_some (Some x) Q P n a h = h x a
+-- what follows from either case of a result
+pub either_way : {X E : Type 0} (r : Result X E) (P Q C : Type 0) → OnOk r P → OnErr r Q → (P → C) → (Q → C) → C
+either_way (Ok x) P Q C p q f g = f p
+either_way (Err e) P Q C p q f g = g q

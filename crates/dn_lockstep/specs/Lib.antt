@@ -1,5 +1,6 @@
 pub mod Least
 pub mod Queues
+pub mod Buckets
 pub mod Agendas
 pub mod Running
 pub mod Wirings

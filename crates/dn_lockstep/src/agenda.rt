@@ -1,7 +1,7 @@
 //! The agenda of a run: the events that wait. The ticks of a group go into the queue when the group
 //! begins, so that the queue stays short.
 
-ghost use Rattle.std.specs.Prelude.{◌≡◌, ◌<◌, [], ◌∷◌, ◌++◌, true, length, IfOk, IfSome, IfNone, OnOk, OnErr};
+ghost use Rattle.std.specs.Prelude.{◌≡◌, ◌↔◌, ◌<◌, IsTrue, [], ◌∷◌, ◌++◌, true, length, IfOk, IfSome, IfNone, OnOk, OnErr};
 ghost use Rattle.std.specs.List.Sorted.{IsPermutation};
 ghost use Rattle.dn_model.specs.Network.{tick, external, externals};
 ghost use Rattle.dn_model.specs.SoFar.{by_router};
@@ -52,6 +52,13 @@ impl Agenda {
         Ok(made)
     }
 
+    /// Whether nothing waits.
+    pub(crate) fn is_empty(&self) -> bool
+        ensures { IsFronted self.now → IsTrue result ↔ (waiting_in self.now ≡ []) }
+    {
+        self.queue.is_empty()
+    }
+
     /// The least event. None exactly where nothing waits.
     pub(crate) fn peek(&self) -> Option<&Event>
         ensures least { IfSome result (λ event. IsFronted self.now → IsLeast event.now (waiting_in self.now)) }
@@ -96,12 +103,9 @@ impl Agenda {
 
     /// Whether an event of an earlier group than the next is in the queue.
     fn has_begun(&self) -> bool
-        ensures { result ≡ true → 0 < count_before self.now.group self.now.queue }
+        ensures { IsTrue result ↔ (0 < count_before self.now.group self.now.queue) }
     {
-        match self.queue.peek() {
-            Some(least) => least.key.group < self.group,
-            None => false,
-        }
+        self.queue.has_before(self.group)
     }
 
     /// Puts the ticks of the next group into the queue.

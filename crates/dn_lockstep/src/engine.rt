@@ -90,7 +90,7 @@ impl<G: Guest> Engine<G> {
         if self.spent {
             return Err(AllocError);
         }
-        if self.agenda.peek().is_none() {
+        if self.agenda.is_empty() {
             return Ok(Next::End);
         }
         if self.place == row_limit(&self.header) {

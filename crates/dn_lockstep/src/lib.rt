@@ -11,7 +11,9 @@
 //! | `engine.rt` | `Engine` and `Next` |
 //! | `step.rt` | one step: a node takes the least event, and what it emits waits too |
 //! | `agenda.rt` | all that waits: a queue, and the ticks of the groups that have not begun |
-//! | `queue.rt` | the queue: a heap of events in the reversed order |
+//! | `queue.rt` | the queue: the events of the first moment in order, and the later ones |
+//! | `later.rt` | the later events, by their moments and unsorted |
+//! | `queued.rt` | an event in the reversed order |
 //! | `wiring.rt` | the far ends of each router's ports |
 //! | `opening.rt` | the nodes before the first event |
 //!
@@ -26,8 +28,10 @@
 
 mod agenda;
 mod engine;
+mod later;
 mod opening;
 mod queue;
+mod queued;
 mod step;
 mod wiring;
 

@@ -1,5 +1,5 @@
 use Rattle.std.proofs.Common.{◌≡◌, ℕ, ◌+◌, ◌<◌, ◌≤◌, Bool, true, false, not, Some, List, [], ◌++◌, length, take, drop, refl, sym, ap, ◌∙◌, subst, arith}
-use Rattle.std.specs.Prelude.{is_some}
+use Rattle.std.proofs.lemmas.Bool.{both_ways}
 use Rattle.dn_guest.specs.declared.node.Node.{Node}
 use Rattle.dn_model.specs.declared.event.Event.{Event}
 use Rattle.dn_model.specs.Settled.{rows, row_limit}
@@ -8,45 +8,36 @@ use Rattle.dn_lockstep.specs.Least.{IsLeast}
 use Rattle.dn_lockstep.specs.Running.{Running, StandsIn}
 use Rattle.dn_lockstep.specs.Steps.{IsHandled}
 use Rattle.dn_lockstep.specs.Answers.{answer_after}
-use Rattle.dn_lockstep.proofs.Options.{at_none, at_some}
-use Rattle.dn_lockstep.proofs.Firsts.{least_waits}
+use Rattle.dn_lockstep.proofs.Firsts.{some_least}
 use Rattle.dn_lockstep.proofs.Places.{kept_items}
 use Rattle.dn_lockstep.proofs.Handling.{handled_inside}
 use Rattle.dn_lockstep.proofs.Onward.{place_at_end, at_end, more_rows, stands_on, answer_end, answer_cut, answer_row}
 use Rattle.dn_lockstep.proofs.engine.Engine.next.Goals as goal
 
-pub returns-then-is_none-clause-answer : goal.returns-then-is_none-clause-answer
-returns-then-is_none-clause-answer g c =
+pub returns-then-is_empty-clause-answer : goal.returns-then-is_empty-clause-answer
+returns-then-is_empty-clause-answer g c =
     λ net feed are so.
-    let nothing : is_some c.peek.result ≡ false = c.is_none.ensures ∙ ap not c.if-is_none.true in
-    let none = at_none c.peek.result (IsFronted c.self.inside.agenda → waiting_in c.self.inside.agenda ≡ []) nothing c.peek.ensures.none (c.self.invariant.fronted c.if-self.false) in
+    let none : waiting_in c.self.inside.agenda ≡ [] = (c.is_empty.ensures (c.self.invariant.fronted c.if-self.false)).0 c.if-is_empty.true in
     answer_end c.args.self.now.place (rows net feed) (place_at_end net feed c.args.self.now so (ap (λ (r : Running g.row.G.Denot). r.waiting) (sym c.self.view_is) ∙ none))
 
-pub returns-then-is_none-clause-moved : goal.returns-then-is_none-clause-moved
-returns-then-is_none-clause-moved g c =
+pub returns-then-is_empty-clause-moved : goal.returns-then-is_empty-clause-moved
+returns-then-is_empty-clause-moved g c =
     λ net feed are so.
-    let nothing : is_some c.peek.result ≡ false = c.is_none.ensures ∙ ap not c.if-is_none.true in
-    let none = at_none c.peek.result (IsFronted c.self.inside.agenda → waiting_in c.self.inside.agenda ≡ []) nothing c.peek.ensures.none (c.self.invariant.fronted c.if-self.false) in
+    let none : waiting_in c.self.inside.agenda ≡ [] = (c.is_empty.ensures (c.self.invariant.fronted c.if-self.false)).0 c.if-is_empty.true in
     (refl, at_end net feed c.args.self.now so (ap (λ (r : Running g.row.G.Denot). r.waiting) (sym c.self.view_is) ∙ none))
 
 pub returns-then-self-row_limit-clause-answer : goal.returns-then-self-row_limit-clause-answer
 returns-then-self-row_limit-clause-answer g c =
     λ net feed are so.
-    let some : is_some c.peek.result ≡ true = c.is_none.ensures ∙ ap not c.if-is_none.false in
-    let fronted = c.self.invariant.fronted c.if-self.false in
+    let some : waiting_in c.self.inside.agenda ≡ [] → ⊥ = λ none. both_ways c.is_empty.result c.if-is_empty.false ((c.is_empty.ensures (c.self.invariant.fronted c.if-self.false)).1 none) in
     let same : waiting_in c.self.inside.agenda ≡ c.args.self.now.waiting = ap (λ (r : Running g.row.G.Denot). r.waiting) c.self.view_is in
-    let more : c.args.self.now.place < length (rows net feed) =
-    at_some c.peek.result (λ x. IsFronted c.self.inside.agenda → IsLeast x.now (waiting_in c.self.inside.agenda)) (c.args.self.now.place < length (rows net feed)) some c.peek.ensures.least
-    (λ x least. more_rows net feed c.args.self.now so x.now (subst (IsLeast x.now) same (least fronted))) in
+    let least = some_least (waiting_in c.self.inside.agenda) some in
+    let more : c.args.self.now.place < length (rows net feed) = more_rows net feed c.args.self.now so least.0 (subst (IsLeast least.0) same least.1) in
     answer_cut c.args.self.now.place (rows net feed) more (ap (λ (r : Running g.row.G.Denot). r.place) (sym c.self.view_is) ∙ c.if-self-row_limit.true ∙ c.row_limit.ensures)
 
 pub handle_least-requires-clause-more : goal.handle_least-requires-clause-more
 handle_least-requires-clause-more g c =
-    λ κs within.
-    let some : is_some c.peek.result ≡ true = c.is_none.ensures ∙ ap not c.if-is_none.false in
-    let fronted = c.self.invariant.fronted c.if-self.false in
-    at_some c.peek.result (λ x. IsFronted c.self.inside.agenda → IsLeast x.now (waiting_in c.self.inside.agenda)) (waiting_in c.self.inside.agenda ≡ [] → ⊥) some c.peek.ensures.least
-    (λ x least. least_waits x.now (waiting_in c.self.inside.agenda) (least fronted))
+    λ κs within none. both_ways c.is_empty.result c.if-is_empty.false ((c.is_empty.ensures (c.self.invariant.fronted c.if-self.false)).1 none)
 
 pub invariant_of-self : goal.invariant_of-self
 invariant_of-self g c =
@@ -68,12 +59,10 @@ invariant_of-self g c =
 pub returns-in-Ok-clause-answer : goal.returns-in-Ok-clause-answer
 returns-in-Ok-clause-answer g c =
     λ net feed are so.
-    let some : is_some c.peek.result ≡ true = c.is_none.ensures ∙ ap not c.if-is_none.false in
-    let fronted = c.self.invariant.fronted c.if-self.false in
+    let some : waiting_in c.self.inside.agenda ≡ [] → ⊥ = λ none. both_ways c.is_empty.result c.if-is_empty.false ((c.is_empty.ensures (c.self.invariant.fronted c.if-self.false)).1 none) in
     let same : waiting_in c.self.inside.agenda ≡ c.args.self.now.waiting = ap (λ (r : Running g.row.G.Denot). r.waiting) c.self.view_is in
-    let more : c.args.self.now.place < length (rows net feed) =
-    at_some c.peek.result (λ x. IsFronted c.self.inside.agenda → IsLeast x.now (waiting_in c.self.inside.agenda)) (c.args.self.now.place < length (rows net feed)) some c.peek.ensures.least
-    (λ x least. more_rows net feed c.args.self.now so x.now (subst (IsLeast x.now) same (least fronted))) in
+    let least = some_least (waiting_in c.self.inside.agenda) some in
+    let more : c.args.self.now.place < length (rows net feed) = more_rows net feed c.args.self.now so least.0 (subst (IsLeast least.0) same least.1) in
     answer_row c.args.self.now.place (rows net feed) more (λ at. c.if-self-row_limit.false (ap (λ (r : Running g.row.G.Denot). r.place) c.self.view_is ∙ at ∙ sym c.row_limit.ensures))
 
 pub returns-in-Ok-clause-moved : goal.returns-in-Ok-clause-moved

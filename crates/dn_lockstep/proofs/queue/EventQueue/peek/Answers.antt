@@ -1,11 +1,13 @@
-use Rattle.std.proofs.Common.{subst, sym}
-use Rattle.std.proofs.lemmas.Bool.{ltb-true}
-use Rattle.std.specs.BinaryHeap.{heap_items}
+use Rattle.std.proofs.Common.{◌≡◌, Some, List, length, sym, ap, ◌∙◌, subst, ◌-◌}
+use Rattle.std.specs.Prelude.{slice_get}
+use Rattle.dn_lockstep.specs.declared.queued.Queued.{Queued}
 use Rattle.dn_lockstep.specs.Least.{IsLeast}
-use Rattle.dn_lockstep.proofs.Firsts.{least_at_top}
+use Rattle.dn_lockstep.proofs.Taking.{least_last}
 use Rattle.dn_lockstep.proofs.queue.EventQueue.peek.Goals as goal
 
-pub returns-clause-least : goal.returns-clause-least
-returns-clause-least c =
-    subst (IsLeast c.in_ok-top.top.now.event) c.self.view_is
-    (least_at_top (heap_items c.self.inside.heap) c.in_ok-top.top.now (ltb-true 0 _ (sym c.in_ok-top.ensures.item.0)) c.in_ok-top.ensures.lookup (c.in_ok-top.ensures.greatest c.self.invariant))
+pub returns-in-Some-clause-least : goal.returns-in-Some-clause-least
+returns-in-Some-clause-least c =
+    let least = c.in-Some.least.now in
+    let last : slice_get c.self.inside.first.items (length c.self.inside.first.items - 1) ≡ Some least =
+    ap (λ (items : List Queued). slice_get items (length items - 1)) (sym c.as_slice.ensures.value) ∙ sym c.in-Some.ensures.value in
+    subst (IsLeast least.event) c.self.view_is (least_last c.self.inside.first.items least c.self.inside.later c.self.invariant last)

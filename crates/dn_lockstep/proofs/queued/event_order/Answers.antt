@@ -2,7 +2,7 @@ use Rattle.std.proofs.Common.{◌≡◌, sym, ◌∙◌}
 use Rattle.std.specs.Ordering.{nat_cmp}
 use Rattle.std.specs.declared.cmp.Ordering.TheVariants.{Equal}
 use Rattle.dn_lockstep.proofs.Firsts.{groups_decide, sums_decide}
-use Rattle.dn_lockstep.proofs.queue.event_order.Goals as goal
+use Rattle.dn_lockstep.proofs.queued.event_order.Goals as goal
 
 pub returns-in_default : goal.returns-in_default
 returns-in_default c =

@@ -1,6 +1,6 @@
 use Rattle.std.proofs.Common.{◌∙◌}
 use Rattle.dn_lockstep.proofs.Firsts.{keys_decide}
-use Rattle.dn_lockstep.proofs.queue.order_at_a_moment.Goals as goal
+use Rattle.dn_lockstep.proofs.queued.order_at_a_moment.Goals as goal
 
 pub returns-in_default : goal.returns-in_default
 returns-in_default c =
