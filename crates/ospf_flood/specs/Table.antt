@@ -57,7 +57,8 @@ abbrev pub copy_is : (Kept → Bool) → Option Kept → Bool
 copy_is test None = false
 copy_is test (Some k) = test k
 
--- The table. The first line that holds decides.
+-- The table (section 13), where the database has so many LSAs, and `listed` says whether the LSA stands on the list of
+-- the port on which it comes. The first line that holds decides.
 abbrev pub by_table : Lsa → ℕ → Option Kept → ℕ → Bool → Verdict
 by_table l now copy count listed =
     if not (has_right_sum l) then Discarded
