@@ -1,8 +1,8 @@
 -- Events of earlier groups stand before those of later ones.
-use Rattle.std.proofs.Common.{◌≡◌, ℕ, zero, suc, ◌+◌, ◌<◌, ◌≤◌, Bool, true, false, List, [], ◌∷◌, ◌++◌, refl, sym, ap, ◌∙◌, subst, arith, append-nil}
+use Rattle.std.proofs.Common.{◌≡◌, ℕ, zero, suc, ◌+◌, ◌<◌, ◌≤◌, Bool, true, false, List, [], ◌∷◌, ◌++◌, refl, sym, ap, subst, arith}
 use Rattle.std.specs.List.{AllByRecursion}
 use Rattle.std.specs.List.Sorted.{IsPermutation}
-use Rattle.std.specs.Prelude.{nat_lt, count_by}
+use Rattle.std.specs.Prelude.{nat_lt}
 use Rattle.std.proofs.lemmas.Bool.{false≢true, ltb-true, lt-ltb}
 use Rattle.std.proofs.lemmas.List.Sorted.{IsPermutation-append_left}
 use Rattle.std.specs.Ordering.{is_gt, ordering_then, nat_cmp, MatchOrdering}
@@ -12,9 +12,8 @@ use Rattle.std.specs.Cmp.{ranked, tied_itself}
 use Rattle.dn_model.specs.declared.event.Event.{Event}
 use Rattle.dn_model.specs.Order.{event_cmp, event_total}
 use Rattle.dn_model.specs.Network.{tick}
-use Rattle.dn_model.proofs.Rows.{all_permutation}
 use Rattle.dn_lists.proofs.Lists.{by_test, all_weaker, all_append}
-use Rattle.dn_lists.proofs.Sorting.{count, count_is_sum, count_none, count_append, count_permutation}
+use Rattle.dn_lists.proofs.Sorting.{count, count_is_sum, count_append, count_permutation}
 use Rattle.dn_lockstep.specs.Least.{IsUpTo, IsLeast}
 use Rattle.dn_lockstep.specs.Agendas.{group_ticks, later_ticks, count_before}
 

@@ -1,5 +1,5 @@
 -- The messages to a router that wait.
-use Rattle.std.proofs.Common.{length, take, get_or, map, ◌≡◌, ℕ, zero, suc, ◌+◌, ◌<◌, Bool, true, false, ◌&&◌, List, [], ◌∷◌, ◌++◌, refl, sym, ap, ◌∙◌, subst, arith, append-nil}
+use Rattle.std.proofs.Common.{length, take, get_or, ◌≡◌, ℕ, zero, suc, ◌+◌, ◌<◌, Bool, true, false, ◌&&◌, List, [], ◌∷◌, ◌++◌, refl, sym, ap, ◌∙◌, arith, append-nil}
 use Rattle.std.specs.Prelude.{◌==◌, cond}
 use Rattle.std.specs.List.{filter, AllByRecursion}
 use Rattle.std.specs.List.Sorted.{IsPermutation}
@@ -10,9 +10,9 @@ use Rattle.dn_guest.specs.Node.{node_after, node_sent}
 use Rattle.dn_model.specs.declared.event.Event.{Event}
 use Rattle.dn_model.specs.declared.feed.External.{External}
 use Rattle.dn_model.specs.Order.{event_cmp, event_total}
-use Rattle.dn_model.specs.Network.{Network, Family, emitted, injected, is_at, joined, routers, opening_node, sent_from, sent, sent_to, tick}
+use Rattle.dn_model.specs.Network.{Network, Family, emitted, injected, is_at, routers, opening_node, sent_from, sent, sent_to, tick}
 use Rattle.dn_model.specs.Settled.{due}
-use Rattle.dn_model.specs.SoFar.{IsRunSoFar, by_router}
+use Rattle.dn_model.specs.SoFar.{by_router}
 use Rattle.dn_lists.proofs.Lists.{by_test, all_weaker, all_append, all_filter, filter_append, filter_none}
 use Rattle.dn_lists.proofs.Sorting.{count, count_append, count_none, count_filter, count_permutation, permutation_from_counts}
 use Rattle.dn_model.proofs.EventOrder.{event_same}

@@ -1,7 +1,7 @@
 -- An engine that stands in a run: the next row, one row further, and the end.
-use Rattle.std.proofs.Common.{◌≡◌, ℕ, zero, suc, ◌+◌, ◌<◌, ◌≤◌, Bool, true, false, Option, Some, None, List, [], ◌∷◌, ◌++◌, length, take, eqb, refl, sym, ap, ◌∙◌, subst, arith, append-nil, add-one, Bor}
-use Rattle.std.specs.Prelude.{slice_get, slice_set, IfSome, IfNone, option_copied}
-use Rattle.std.specs.List.{filter, AllByRecursion}
+use Rattle.std.proofs.Common.{◌≡◌, ℕ, ◌+◌, ◌<◌, false, Option, Some, None, List, [], ◌∷◌, ◌++◌, length, take, eqb, refl, sym, ap, ◌∙◌, subst, arith, append-nil, add-one, Bor}
+use Rattle.std.specs.Prelude.{slice_get, IfSome, IfNone, option_copied}
+use Rattle.std.specs.List.{filter}
 use Rattle.std.specs.List.Sorted.{IsPermutation, IsSorted}
 use Rattle.std.proofs.lemmas.Bool.{eqb-true, eqb-false, eq-eqb, ne_eqb}
 use Rattle.std.proofs.lemmas.List.{length-take-le}
@@ -13,10 +13,9 @@ use Rattle.dn_guest.specs.Node.{node_after, node_sent}
 use Rattle.dn_model.specs.declared.key.Key.{Key}
 use Rattle.dn_model.specs.declared.event.Event.{Event}
 use Rattle.dn_model.specs.declared.feed.External.{External}
-use Rattle.dn_model.specs.Cases.{Heading}
-use Rattle.dn_model.specs.Order.{event_cmp, event_total, is_below}
-use Rattle.dn_model.specs.Network.{Network, Family, emitted, is_at, joined, routers, opening_node, state_from, state, sent, sent_to, injected}
-use Rattle.dn_model.specs.Settled.{IsTimed, IsFeedOf, row_limit, IsPrefixOf, IsSettled, IsSettledBelow, AreSame, below, due, lockstep, rows}
+use Rattle.dn_model.specs.Order.{event_cmp, event_total}
+use Rattle.dn_model.specs.Network.{Network, Family, emitted, is_at, routers, opening_node, state_from, state, sent, sent_to, injected}
+use Rattle.dn_model.specs.Settled.{row_limit, IsPrefixOf, IsSettled, IsSettledBelow, AreSame, below, due, lockstep, rows}
 use Rattle.dn_model.specs.SoFar.{IsRunSoFar, by_router, next_emitted}
 use Rattle.dn_lists.proofs.Lists.{by_test, pairs_filter}
 use Rattle.dn_lists.proofs.Sorting.{rises_from_sorted, sorted_from_rises}

@@ -1,7 +1,6 @@
 -- What follows from what is said of the value in a Some, or at a None.
-use Rattle.std.proofs.Common.{◌≡◌, true, false, Option, Some, None, Result, Ok, Err, sym}
-use Rattle.std.proofs.lemmas.Bool.{false≢true}
-use Rattle.std.specs.Prelude.{IfSome, IfNone, OnOk, OnErr, is_some}
+use Rattle.std.proofs.Common.{Option, Some, None, Result, Ok, Err}
+use Rattle.std.specs.Prelude.{IfSome, IfNone, OnOk, OnErr}
 
 module _ {X : Type 0} where
   pub if_some_both : (r : Option X) (P Q R : X → Type 0) → IfSome r P → IfSome r Q → ((x : X) → P x → Q x → R x) → IfSome r R

@@ -1,5 +1,5 @@
 -- How a run begins: what waits is all that is injected, and the nodes are the opening ones.
-use Rattle.std.proofs.Common.{◌≡◌, ℕ, zero, suc, ◌+◌, ◌-◌, ◌^◌, ◌<◌, ◌≤◌, Bool, true, false, Some, None, List, [], ◌∷◌, ◌++◌, length, ltb, refl, sym, ap, ◌∙◌, subst, arith}
+use Rattle.std.proofs.Common.{◌≡◌, ℕ, zero, suc, ◌+◌, ◌-◌, ◌^◌, ◌<◌, Bool, true, false, Some, None, List, [], ◌∷◌, ◌++◌, length, ltb, refl, sym, ap, ◌∙◌, subst, arith}
 use Rattle.std.specs.Prelude.{slice_get}
 use Rattle.std.specs.List.{filter, AllByRecursion}
 use Rattle.std.specs.List.Sorted.{IsPermutation}
@@ -9,12 +9,12 @@ use Rattle.dn_guest.specs.declared.node.Node.{Node}
 use Rattle.dn_model.specs.declared.event.Event.{Event}
 use Rattle.dn_model.specs.declared.feed.External.{External}
 use Rattle.dn_model.specs.declared.link.Link.{Link}
-use Rattle.dn_model.specs.Cases.{Heading, Recording, IsHeading, IsRecording, AreExternals}
+use Rattle.dn_model.specs.Cases.{Heading, Recording, IsRecording, AreExternals}
 use Rattle.dn_model.specs.Links.{ports_of}
 use Rattle.dn_model.specs.Order.{event_cmp, event_total}
-use Rattle.dn_model.specs.Network.{Network, Family, tick, ticks, external, externals, injected, is_at, joined, routers, opening_node, state_from, state}
-use Rattle.dn_model.specs.Settled.{IsTimed, IsFeedOf, rows}
-use Rattle.dn_model.specs.SoFar.{IsRunSoFar, IsWired, all_injected, by_router}
+use Rattle.dn_model.specs.Network.{Network, Family, tick, ticks, externals, injected, joined, routers, opening_node, state_from, state}
+use Rattle.dn_model.specs.Settled.{IsTimed, IsFeedOf}
+use Rattle.dn_model.specs.SoFar.{all_injected, by_router}
 use Rattle.dn_lists.proofs.Lists.{all_weaker, all_append, filter_all}
 use Rattle.dn_lists.proofs.Sorting.{count, count_append, permutation_from_counts}
 use Rattle.dn_model.proofs.EventOrder.{event_same}

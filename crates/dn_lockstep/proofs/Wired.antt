@@ -1,9 +1,8 @@
 -- The far ends of a router's ports, found in the list of all.
-use Rattle.std.proofs.Common.{◌≡◌, ℕ, zero, suc, ◌+◌, ◌<◌, Some, List, [], ◌∷◌, ◌++◌, length, refl, sym, ap, ◌∙◌, subst, arith, length-append, eqb}
+use Rattle.std.proofs.Common.{◌≡◌, ℕ, zero, suc, ◌<◌, Some, List, [], ◌∷◌, ◌++◌, length, refl, sym, ◌∙◌, subst, arith, length-append, eqb}
 use Rattle.std.specs.Prelude.{slice_get}
 use Rattle.std.proofs.lemmas.Bool.{eqb-true, eqb-false}
 use Rattle.dn_model.specs.declared.link.Link.{Link}
-use Rattle.dn_model.specs.declared.link.End.{End}
 use Rattle.dn_model.specs.Links.{ends}
 use Rattle.dn_lists.proofs.Lists.{by_test}
 use Rattle.dn_lockstep.specs.Wirings.{all_ends}

@@ -6,7 +6,7 @@ use Rattle.dn_model.specs.declared.key.Key.{Key}
 use Rattle.dn_model.specs.declared.event.Event.{Event}
 use Rattle.dn_model.specs.declared.feed.External.{External}
 use Rattle.dn_model.specs.Cases.{Heading}
-use Rattle.dn_model.specs.Network.{Network, Family, routers, state}
+use Rattle.dn_model.specs.Network.{Network, routers, state}
 use Rattle.dn_model.specs.Settled.{IsTimed, IsFeedOf, IsSettled, IsSettledBelow, lockstep, rows}
 use Rattle.dn_model.specs.SoFar.{IsRunSoFar, IsWired, by_router}
 

@@ -1,7 +1,6 @@
-use Rattle.std.proofs.Common.{◌≡◌, ◌+◌, true, false, sym, ap, ◌∙◌, subst}
+use Rattle.std.proofs.Common.{◌≡◌, ◌+◌, sym, ap, ◌∙◌, subst}
 use Rattle.std.specs.Ordering.{is_lt}
 use Rattle.dn_model.specs.Order.{event_cmp}
-use Rattle.dn_lockstep.specs.declared.queued.Queued.{Queued}
 use Rattle.dn_lockstep.proofs.Firsts.{IsLeastSoFar, new_least, same_least, least_found}
 use Rattle.dn_lockstep.proofs.later.least_of.Goals.{then-is_lt, else-is_lt}
 use Rattle.dn_lockstep.proofs.later.least_of.Goals as goal

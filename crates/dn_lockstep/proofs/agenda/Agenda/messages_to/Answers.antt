@@ -1,6 +1,5 @@
-use Rattle.std.proofs.Common.{◌≡◌, List, sym, ap, ◌∙◌}
+use Rattle.std.proofs.Common.{sym, ap, ◌∙◌}
 use Rattle.std.proofs.lemmas.Result.{MatchResult-weaker}
-use Rattle.dn_model.specs.declared.event.Event.{Event}
 use Rattle.dn_model.specs.SoFar.{by_router}
 use Rattle.dn_lockstep.specs.Agendas.{Plan, waiting_in}
 use Rattle.dn_lockstep.specs.Running.{messages}

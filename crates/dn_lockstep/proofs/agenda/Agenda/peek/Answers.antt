@@ -1,4 +1,4 @@
-use Rattle.std.proofs.Common.{◌≡◌, List, [], subst, sym}
+use Rattle.std.proofs.Common.{◌≡◌, [], subst, sym}
 use Rattle.std.proofs.lemmas.Option.{IfSome_then}
 use Rattle.dn_lockstep.specs.Least.{IsLeast}
 use Rattle.dn_lockstep.specs.Agendas.{Plan, waiting_in, IsFronted}

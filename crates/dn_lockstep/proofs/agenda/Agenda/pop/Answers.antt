@@ -1,8 +1,7 @@
-use Rattle.std.proofs.Common.{◌≡◌, List, [], ◌∷◌, ◌++◌, subst, sym}
+use Rattle.std.proofs.Common.{◌≡◌, [], ◌∷◌, ◌++◌, subst, sym}
 use Rattle.std.proofs.lemmas.Option.{IfSome_then}
 use Rattle.std.specs.List.Sorted.{IsPermutation}
 use Rattle.std.proofs.lemmas.List.Sorted.{IsPermutation-append_left}
-use Rattle.dn_model.specs.declared.event.Event.{Event}
 use Rattle.dn_lockstep.specs.Least.{IsUpTo}
 use Rattle.dn_lockstep.specs.Agendas.{Plan, waiting_in, later_ticks, IsFronted}
 use Rattle.dn_lockstep.proofs.Options.{if_some_both, if_none_then}

@@ -1,9 +1,7 @@
-use Rattle.std.proofs.Common.{List, ◌∷◌, ◌++◌, Result, subst}
-use Rattle.std.specs.Result.{OnOk}
+use Rattle.std.proofs.Common.{◌∷◌, ◌++◌, subst}
 use Rattle.std.proofs.lemmas.Result.{MatchResult-weaker}
 use Rattle.std.specs.List.Sorted.{IsPermutation}
 use Rattle.std.proofs.lemmas.List.Sorted.{IsPermutation-append_left}
-use Rattle.dn_model.specs.declared.event.Event.{Event}
 use Rattle.dn_lockstep.specs.Agendas.{Plan, waiting_in, later_ticks}
 use Rattle.dn_lockstep.proofs.agenda.Agenda.push.Goals as goal
 

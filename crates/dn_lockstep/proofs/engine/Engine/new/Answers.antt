@@ -1,12 +1,11 @@
-use Rattle.std.proofs.Common.{◌≡◌, ◌≤◌, false, None, List, ◌++◌, length, sym, ap, ◌∙◌, subst, arith}
+use Rattle.std.proofs.Common.{◌≡◌, false, None, List, ◌++◌, length, sym, ap, ◌∙◌, subst, arith}
 use Rattle.std.specs.List.Sorted.{IsPermutation}
 use Rattle.dn_model.specs.declared.feed.External.{External}
-use Rattle.dn_model.specs.Cases.{Heading, Recording, IsHeading, IsRecording}
+use Rattle.dn_model.specs.Cases.{Heading, Recording, IsHeading}
 use Rattle.dn_model.specs.Network.{externals}
 use Rattle.dn_lockstep.specs.Agendas.{waiting_in, later_ticks}
-use Rattle.dn_lockstep.specs.Openings.{opening_from}
 use Rattle.dn_lockstep.specs.Running.{StandsIn}
-use Rattle.dn_lockstep.specs.Steps.{IsSound, AreInside}
+use Rattle.dn_lockstep.specs.Steps.{AreInside}
 use Rattle.dn_lockstep.proofs.Start.{inside_at_start, stands_at_start, opening_count}
 use Rattle.dn_lockstep.proofs.engine.Engine.new.Goals as goal
 

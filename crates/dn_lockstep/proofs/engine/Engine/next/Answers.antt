@@ -1,13 +1,11 @@
-use Rattle.std.proofs.Common.{◌≡◌, ℕ, ◌+◌, ◌<◌, ◌≤◌, Bool, true, false, not, Some, List, [], ◌++◌, length, take, drop, refl, sym, ap, ◌∙◌, subst, arith}
+use Rattle.std.proofs.Common.{◌≡◌, ◌+◌, ◌<◌, Bool, Some, List, [], ◌++◌, length, take, drop, refl, sym, ap, ◌∙◌, subst, arith}
 use Rattle.std.proofs.lemmas.Bool.{both_ways}
 use Rattle.dn_guest.specs.declared.node.Node.{Node}
-use Rattle.dn_model.specs.declared.event.Event.{Event}
-use Rattle.dn_model.specs.Settled.{rows, row_limit}
-use Rattle.dn_lockstep.specs.Agendas.{waiting_in, IsFronted}
+use Rattle.dn_model.specs.Settled.{rows}
+use Rattle.dn_lockstep.specs.Agendas.{waiting_in}
 use Rattle.dn_lockstep.specs.Least.{IsLeast}
 use Rattle.dn_lockstep.specs.Running.{Running, StandsIn}
 use Rattle.dn_lockstep.specs.Steps.{IsHandled}
-use Rattle.dn_lockstep.specs.Answers.{answer_after}
 use Rattle.dn_lockstep.proofs.Firsts.{some_least}
 use Rattle.dn_lockstep.proofs.Places.{kept_items}
 use Rattle.dn_lockstep.proofs.Handling.{handled_inside}

@@ -1,7 +1,6 @@
 use Rattle.std.proofs.Common.{◌<◌, List, sym, subst, ltb-true, lt-ltb}
 use Rattle.dn_model.specs.declared.event.Event.{Event}
 use Rattle.dn_lockstep.specs.Agendas.{count_before}
-use Rattle.dn_lockstep.specs.Buckets.{in_buckets}
 use Rattle.dn_lockstep.proofs.Buckets.{first_before}
 use Rattle.dn_lockstep.proofs.later.Later.has_before.Goals as goal
 

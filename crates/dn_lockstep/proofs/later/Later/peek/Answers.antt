@@ -1,7 +1,5 @@
-use Rattle.std.proofs.Common.{◌≡◌, List, [], sym, ap, ◌∙◌, subst}
+use Rattle.std.proofs.Common.{◌≡◌, [], sym, ap, ◌∙◌, subst}
 use Rattle.std.proofs.lemmas.Option.{IfSome_then}
-use Rattle.dn_model.specs.declared.event.Event.{Event}
-use Rattle.dn_lockstep.specs.declared.queued.Queued.{Queued}
 use Rattle.dn_lockstep.specs.Least.{IsLeast}
 use Rattle.dn_lockstep.specs.Queues.{queued_events}
 use Rattle.dn_lockstep.proofs.Options.{if_none_then}

@@ -1,6 +1,5 @@
-use Rattle.std.proofs.Common.{◌≡◌, List, ◌∷◌, sym, ap, ◌∙◌}
+use Rattle.std.proofs.Common.{List, ◌∷◌, sym, ap, ◌∙◌}
 use Rattle.dn_model.specs.declared.event.Event.{Event}
-use Rattle.dn_lockstep.specs.declared.later.Moment.{Moment}
 use Rattle.dn_lockstep.proofs.Buckets.{first_up_to}
 use Rattle.dn_lockstep.proofs.later.Later.take_first.Goals as goal
 

@@ -1,6 +1,5 @@
 use Rattle.std.proofs.Common.{◌≡◌, Some, List, length, sym, ap, ◌∙◌, subst, ◌-◌}
 use Rattle.std.specs.Prelude.{slice_get}
-use Rattle.dn_model.specs.declared.event.Event.{Event}
 use Rattle.dn_lockstep.specs.declared.queued.Queued.{Queued}
 use Rattle.dn_lockstep.specs.Least.{IsLeast}
 use Rattle.dn_lockstep.proofs.Taking.{least_last, least_before}

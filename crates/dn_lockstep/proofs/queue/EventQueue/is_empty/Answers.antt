@@ -1,4 +1,4 @@
-use Rattle.std.proofs.Common.{◌≡◌, ◌<◌, true, length, sym, ◌∙◌, rules}
+use Rattle.std.proofs.Common.{◌<◌, length, ◌∙◌, rules}
 use Rattle.dn_lockstep.proofs.Taking.{not_empty}
 use Rattle.dn_lockstep.proofs.queue.EventQueue.is_empty.Goals as goal
 
