@@ -1,7 +1,5 @@
 -- The spelling of a case that meets the rules is read again.
-use Rattle.std.proofs.Common.{◌≡◌, ℕ, ◌≤◌, true, List, [], ◌∷◌, ◌++◌, length, map, refl, sym, ap, subst}
-use Rattle.std.specs.List.{flat_map}
-use Rattle.dn_model.specs.declared.router.RouterDef.{RouterDef}
+use Rattle.std.proofs.Common.{◌≡◌, ℕ, ◌≤◌, true, List, [], ◌∷◌, ◌++◌, length, map, refl, sym, subst}
 use Rattle.dn_model.specs.declared.link.Link.{Link as LinkDef}
 use Rattle.dn_model.specs.declared.feed.External.{External as ExternalDef}
 use Rattle.dn_model.specs.Cases.{Recording, AreRouters, AreLinks, IsHeading, IsRecording}
@@ -10,10 +8,10 @@ use Rattle.dn_case.specs.declared.place.Place.{Place}
 use Rattle.dn_case.specs.declared.place.Place.TheVariants as place
 use Rattle.dn_case.specs.Shapes.{Line, Feed, End}
 use Rattle.dn_case.specs.Standings.{may_follow, start}
-use Rattle.dn_case.specs.Spelling.{spelled, number_lines, router_line, link_line, prefix_lines, external_line, header_lines, lines_of}
+use Rattle.dn_case.specs.Spelling.{spelled, number_lines, router_line, link_line, external_line, header_lines, lines_of}
 use Rattle.dn_case.specs.Reading.{Leads, IsCaseText}
 use Rattle.dn_case.proofs.RoundTrip.{reads_on, numbered_at, numbers_lead, at, bares, length_bares, are_bare, routers_lead, not_none, behind_links, lines_of_bare, links_lead, with_feed, behind_feed, externals_lead}
-use Rattle.dn_case.proofs.PrefixLeads.{lines_join, PrefixesLead, prefixes_lead}
+use Rattle.dn_case.proofs.PrefixLeads.{lines_join, prefixes_lead}
 
 abbrev headed : Place → Recording → Standing
 headed p c = record { place = p; period = c.header.period; groups = c.header.groups; seed = c.header.seed; routers = c.header.routers; links = c.header.links; feed = [] }

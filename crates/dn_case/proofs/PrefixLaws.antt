@@ -1,6 +1,6 @@
 -- Prefixes: their numbers, what the tests of a prefix line say, and routers with one more prefix.
-use Rattle.std.proofs.Common.{◌≡◌, ℕ, ◌+◌, ◌*◌, ◌-◌, ◌<◌, ◌≤◌, ◌^◌, ◌/◌, ◌%◌, zero, suc, Bool, true, false, not, ◌&&◌, ◌==◌, nat_eq, List, [], ◌∷◌, ◌++◌, length, map, get_or, Some, None, refl, sym, ap, subst, ◌∙◌, append_assoc, arith, rules, tests}
-use Rattle.std.specs.Prelude.{slice_get, position}
+use Rattle.std.proofs.Common.{◌≡◌, ℕ, ◌+◌, ◌*◌, ◌-◌, ◌<◌, ◌≤◌, ◌^◌, ◌/◌, ◌%◌, zero, suc, Bool, true, false, not, ◌&&◌, nat_eq, List, [], ◌∷◌, ◌++◌, length, map, get_or, refl, sym, ap, subst, ◌∙◌, append_assoc, arith, rules, tests}
+use Rattle.std.specs.Prelude.{position}
 use Rattle.std.specs.Cmp.Lexicographic.{pointwise}
 use Rattle.std.proofs.lemmas.Bool.{eqb-true}
 use Rattle.std.proofs.lemmas.List.{append-nil, length-append}
@@ -8,7 +8,7 @@ use Rattle.dn_model.specs.declared.router.Kind.{Kind}
 use Rattle.dn_model.specs.declared.router.Kind.TheVariants as kind
 use Rattle.dn_model.specs.declared.router.Prefix.{Prefix}
 use Rattle.dn_model.specs.declared.router.RouterDef.{RouterDef}
-use Rattle.dn_model.specs.Kinds.{IsCost, has_prefix, IsPrefix, ArePrefixes}
+use Rattle.dn_model.specs.Kinds.{IsCost, IsPrefix, ArePrefixes}
 use Rattle.dn_model.specs.Routers.{number_of}
 use Rattle.dn_model.specs.Cases.{IsRouter, AreRouters}
 use Rattle.dn_text.specs.declared.decimals.Number.{Number}

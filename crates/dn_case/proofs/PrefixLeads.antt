@@ -1,5 +1,5 @@
 -- The prefix lines of routers are read again, in the order of the routers.
-use Rattle.std.proofs.Common.{◌≡◌, ℕ, ◌<◌, ◌≤◌, ◌^◌, zero, suc, true, false, not, ◌&&◌, nat_le, List, [], ◌∷◌, ◌++◌, length, map, get_or, Option, Some, None, Ok, IsTrue, refl, sym, ap, subst, ◌∙◌, append_assoc, arith}
+use Rattle.std.proofs.Common.{◌≡◌, ℕ, ◌<◌, ◌≤◌, true, List, [], ◌∷◌, ◌++◌, length, map, Some, None, Ok, IsTrue, refl, sym, ap, subst, ◌∙◌, append_assoc, arith}
 use Rattle.std.specs.Prelude.{slice_get}
 use Rattle.std.specs.List.{flat_map, AllByRecursion}
 use Rattle.std.proofs.lemmas.List.{append-nil, length-append}
@@ -10,13 +10,12 @@ use Rattle.dn_model.specs.Names.{is_name}
 use Rattle.dn_model.specs.Kinds.{IsPrefix, ArePrefixes}
 use Rattle.dn_model.specs.Routers.{number_of}
 use Rattle.dn_model.specs.Cases.{IsRouter, AreRouters}
-use Rattle.dn_text.specs.declared.decimals.Number.TheVariants.{Is}
 use Rattle.dn_case.specs.declared.standing.Standing.{Standing}
 use Rattle.dn_case.specs.declared.place.Place.{Place}
 use Rattle.dn_case.specs.declared.place.Place.TheVariants as place
 use Rattle.dn_case.specs.Shapes.{Line}
-use Rattle.dn_case.specs.Standings.{may_follow, address, first_of, table, after, and_prefix, with_prefix, read_line}
-use Rattle.dn_case.specs.Spelling.{spelled, IsSpellable, net_of_prefix, prefix_line, prefix_lines}
+use Rattle.dn_case.specs.Standings.{may_follow, first_of, table, after, and_prefix, with_prefix}
+use Rattle.dn_case.specs.Spelling.{spelled, IsSpellable, prefix_line, prefix_lines}
 use Rattle.dn_case.specs.Reading.{Leads}
 use Rattle.dn_case.proofs.Leading.{leads_join}
 use Rattle.dn_case.proofs.RouterLaws.{nobody}

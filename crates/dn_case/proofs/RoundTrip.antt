@@ -1,7 +1,7 @@
 -- The lines of each section of a case that meets the rules are read again.
 use Rattle.std.proofs.Common.{◌≡◌, ◌≢◌, ◌⊎◌, inl, inr, unwrap_or, ℕ, ◌+◌, ◌*◌, ◌<◌, ◌≤◌, ◌^◌, zero, suc, Bool, true, false, cond, ◌&&◌, ◌||◌, nat_eq, nat_le, nat_lt, eqb, List, [], ◌∷◌, ◌++◌, length, map, take, get_or, Option, Some, None, Ok, IsTrue, refl, sym, ap, subst, ◌∙◌, arith, rules, tests, append_assoc}
 use Rattle.std.specs.Prelude.{position}
-use Rattle.std.specs.List.{flat_map, list_any, position_or_len}
+use Rattle.std.specs.List.{list_any, position_or_len}
 use Rattle.std.specs.Cmp.Lexicographic.{pointwise, bytes_decides}
 use Rattle.std.proofs.lemmas.Bool.{eqb-true}
 use Rattle.std.proofs.lemmas.List.{append-nil, length-append, length-take, get_or-take}
@@ -15,17 +15,17 @@ use Rattle.dn_model.specs.declared.feed.External.{External as ExternalDef}
 use Rattle.dn_model.specs.Names.{is_name}
 use Rattle.dn_model.specs.Routers.{number_of, name_at}
 use Rattle.dn_model.specs.Links.{names, ports_of}
-use Rattle.dn_model.specs.Cases.{Heading, Recording, IsRouter, AreRouters, IsLink, AreLinks, IsHeading, IsAsked, IsExternal, AreExternals, IsRecording}
+use Rattle.dn_model.specs.Cases.{Heading, IsRouter, AreRouters, IsLink, AreLinks, IsHeading, IsAsked, IsExternal, AreExternals}
 use Rattle.dn_text.specs.declared.decimals.Number.TheVariants.{Is}
 use Rattle.dn_text.specs.Hexadecimals.{unhex}
 use Rattle.dn_text.proofs.HexadecimalLaws.{unhex_again, is_hex_again, length-hex}
 use Rattle.dn_case.specs.declared.standing.Standing.{Standing}
 use Rattle.dn_case.specs.declared.place.Place.{Place}
 use Rattle.dn_case.specs.declared.place.Place.TheVariants as place
-use Rattle.dn_case.specs.Shapes.{Line, Version, Period, Groups, Seed, Feed, External, End}
+use Rattle.dn_case.specs.Shapes.{Line, Version, Period, Groups, Seed, External}
 use Rattle.dn_case.specs.Standings.{place_of, may_follow, between, ask_fits, lacks_port, input_of, last_group, first_of, table, after, judged, read_line, start}
-use Rattle.dn_case.specs.Spelling.{spelled, IsSpellable, number_lines, router_line, link_line, prefix_lines, asked_by, external_line, header_lines, lines_of}
-use Rattle.dn_case.specs.Reading.{Leads, case_of, IsCaseText}
+use Rattle.dn_case.specs.Spelling.{spelled, IsSpellable, number_lines, router_line, link_line, asked_by, external_line}
+use Rattle.dn_case.specs.Reading.{Leads, case_of}
 use Rattle.dn_case.proofs.FeedLaws.{last_group-append}
 use Rattle.dn_case.proofs.LinkLaws.{ports_of-append, ports_of-nil}
 use Rattle.dn_case.proofs.PrefixLaws.{same_number, names_joined}

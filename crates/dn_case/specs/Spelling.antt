@@ -1,5 +1,5 @@
 -- The spelling of a line: its fields, with one space between them, and a newline.
-use Rattle.std.specs.Prelude.{◌≡◌, ℕ, ◌<◌, ◌^◌, ◌/◌, ◌%◌, List, [], ◌∷◌, ◌++◌, map, codes, IsTrue}
+use Rattle.std.specs.Prelude.{ℕ, ◌<◌, ◌^◌, ◌/◌, ◌%◌, List, [], ◌∷◌, ◌++◌, map, codes, IsTrue}
 use Rattle.std.specs.List.{join_with_byte, flat_map}
 use Rattle.dn_guest.specs.Hex.{hex}
 use Rattle.dn_guest.specs.declared.input.Input.{Input}

@@ -103,12 +103,10 @@ prefix s 32.0.0.0/8 1|40 ended
     let (case, _) = read_case(alloc, text.as_bytes())
         .ok()
         .ok_or("32 prefixes are a case")?;
-    let counts = case
-        .header
-        .routers
-        .as_slice()
-        .iter()
-        .map(|router| router.prefixes.as_slice().len());
-    assert!(rt; counts.eq([32, 0]));
+    let routers = case.header.routers.as_slice();
+    if let Some(router) = routers.first() {
+        assert_eq!(rt; router.prefixes.as_slice().len(), 32);
+    }
+    assert_eq!(rt; routers.len(), 2);
     Ok(())
 }
