@@ -1,0 +1,3 @@
+pub mod NetworkLaws
+pub mod RouteLaws
+pub mod Equalities

@@ -1,0 +1,7 @@
+use Rattle.std.proofs.Common.{rules}
+use Rattle.std.proofs.lemmas.Map.Made.{map_same_pairs}
+use Rattle.rip_table.specs.Timers.{port_lost}
+use Rattle.rip_table.proofs.timers.lose_all_via.Goals as goal
+
+pub returns : goal.returns
+returns c = map_same_pairs _ (port_lost c.args.port c.args.now) _ (λ k v b w f' t. search rules) _ _ c.retain.ensures.filtered

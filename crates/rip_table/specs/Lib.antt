@@ -1,0 +1,7 @@
+pub mod Networks
+pub mod Held
+pub mod Routes
+pub mod Response
+pub mod Own
+pub mod Timers
+pub mod Reply

@@ -1,0 +1,127 @@
+//! A route that is held.
+
+ghost use Rattle.std.specs.Prelude.{◌≡◌};
+ghost use Rattle.rip_table.specs.Held.{is_current, is_gone, is_lost_via, is_reachable, is_timed_out, is_via, learnt, lost, refreshed, settled};
+ghost use Rattle.rip_table.specs.Own.{withdrawn};
+
+/// The metric of a network that can't be reached (RFC 2453 section 3.4).
+pub const INFINITY: u8 = 16;
+
+/// How many ticks a route lasts that isn't heard again (RFC 2453 section 3.8).
+const TIMEOUT: u32 = 180;
+
+/// How many ticks an unreachable route is still told of before it is removed (RFC 2453 section 3.8).
+const GARBAGE_COLLECTION: u32 = 120;
+
+/// The route to a network. Moments are ticks, one a second.
+#[derive(Clone, Copy, Debug, PartialEq, Eq)]
+pub struct Held {
+    /// The route tag, as it was told.
+    pub tag: u16,
+    /// 1 to 16, where 16 is infinity.
+    pub metric: u8,
+    /// The port on which the route was told; `None` for a network of the router's own.
+    pub via: Option<u8>,
+    /// The tick at which the route was last heard, and where its metric is 16 the one at which its
+    /// deletion began.
+    pub time: u32,
+    /// Whether the route changed since the last update.
+    pub changed: bool,
+}
+
+impl Held {
+    /// A route that was just told on a port.
+    pub fn learnt(port: u8, tag: u16, metric: u8, now: u32) -> Held
+        ensures { result ≡ learnt port tag metric now }
+    {
+        Held {
+            tag,
+            metric,
+            via: Some(port),
+            time: now,
+            changed: true,
+        }
+    }
+
+    /// Whether the network can be reached.
+    pub fn is_reachable(&self) -> bool
+        ensures { result ≡ is_reachable self.now }
+    {
+        self.metric < INFINITY
+    }
+
+    /// Whether it is a network of the router's own that can be reached.
+    pub fn is_current(&self) -> bool
+        ensures { result ≡ is_current self.now }
+    {
+        self.via.is_none() && self.is_reachable()
+    }
+
+    /// Whether it goes by this port.
+    pub fn is_via(&self, port: u8) -> bool
+        ensures { result ≡ is_via port self.now }
+    {
+        match self.via {
+            Some(via) => via == port,
+            None => false,
+        }
+    }
+
+    /// The route as it is heard again, all else as it was.
+    pub fn refreshed(self, now: u32) -> Held
+        ensures { result ≡ refreshed now self }
+    {
+        Held { time: now, ..self }
+    }
+
+    /// The route whose deletion begins.
+    pub fn lost(self, now: u32) -> Held
+        ensures { result ≡ lost now self }
+    {
+        Held {
+            metric: INFINITY,
+            time: now,
+            changed: true,
+            ..self
+        }
+    }
+
+    /// The route after a network of the router's own was withdrawn.
+    pub fn withdrawn(self, now: u32) -> Held
+        ensures { result ≡ withdrawn now self }
+    {
+        if self.is_current() {
+            self.lost(now)
+        } else {
+            self
+        }
+    }
+
+    /// Takes the mark of a change away.
+    pub fn settle(&mut self)
+        ensures { self.new ≡ settled self.old }
+    {
+        self.changed = false;
+    }
+
+    /// Whether it goes by this port and can be reached.
+    pub fn is_lost_via(&self, port: u8) -> bool
+        ensures { result ≡ is_lost_via port self.now }
+    {
+        self.is_via(port) && self.is_reachable()
+    }
+
+    /// Whether it can be reached by a port, and was last heard 180 or more ticks ago.
+    pub fn is_timed_out(&self, now: u32) -> bool
+        ensures { result ≡ is_timed_out now self.now }
+    {
+        self.via.is_some() && self.is_reachable() && TIMEOUT <= now.saturating_sub(self.time)
+    }
+
+    /// Whether it can't be reached, and its deletion began 120 or more ticks ago.
+    pub fn is_gone(&self, now: u32) -> bool
+        ensures { result ≡ is_gone now self.now }
+    {
+        !self.is_reachable() && GARBAGE_COLLECTION <= now.saturating_sub(self.time)
+    }
+}
