@@ -7,8 +7,7 @@ use crate::{Status, defined_plain, defined_top, status_line, status_number};
 use dn_case::{CaseError, read_case};
 use dn_guest::{Bytes, Flood, NoMemory, Node};
 use dn_io::{MemSink, MemSource};
-use dn_lockstep::Engine;
-use dn_model::Case;
+use dn_model::{Case, Event, Key};
 use dn_trace::{Checked, Ending, TraceWriter, check, write_row, write_state, write_trace};
 use std::alloc::Global;
 use std::test::Fail;
@@ -544,66 +543,102 @@ fn empty_sink(alloc: Global) -> Result<MemSink, NoMemory> {
     MemSink::new(alloc, Vec::new(alloc), 4096, 65_536)
 }
 
+/// The first row of the case's run: the tick of the first group at its first router.
+fn first_row() -> Event {
+    Event {
+        key: Key {
+            group: 0,
+            sum: 0,
+            class: 0,
+            tie: 0,
+            origin: 0,
+            seq: 0,
+        },
+        router: 0,
+        input: dn_guest::Input::Tick(0),
+    }
+}
+
 #[test]
-fn the_pieces_of_a_trace_are_written(rt: HostRuntime) -> Result<(), Fail> {
-    let alloc = rt.alloc();
-    let case = two_routers(alloc)?;
-    assert!(rt; case.is_some());
-    let Some(case) = case else {
+fn a_row_is_written_by_itself(rt: HostRuntime) -> Result<(), Fail> {
+    if let Some(case) = two_routers(rt.alloc())? {
+        let mut sink = empty_sink(rt.alloc())?;
+        let row = first_row();
+        assert!(rt; write_row(rt.alloc(), &case.header, &row, &mut sink).is_ok());
+        assert_eq!(rt;
+            sink.as_slice(),
+            b"0 0 t 0000000000000000 0 0 a tick\n".as_slice()
+        );
         return Ok(());
-    };
-    let mut engine = Engine::new(alloc, &case, guests_of(alloc, &case)?)?;
-    engine.next()?;
-    assert!(rt; engine.last().is_some());
-    let Some(row) = engine.last() else {
-        return Ok(());
-    };
-    let mut one_row = empty_sink(alloc)?;
-    assert!(rt; write_row(alloc, &case.header, row, &mut one_row).is_ok());
-    assert_eq!(rt;
-        one_row.as_slice(),
-        b"0 0 t 0000000000000000 0 0 a tick\n".as_slice()
-    );
-    let mut rows = Vec::new(alloc);
-    rows.push(row.copy(alloc)?)?;
-    let mut writer = TraceWriter::new(alloc);
-    let mut first_rows = empty_sink(alloc)?;
-    assert!(rt;
-        writer
-            .rows(&case.header, rows.as_slice(), &mut first_rows)
-            .is_ok()
-    );
-    assert_eq!(rt; writer.count(), 1);
-    assert_eq!(rt;
-        first_rows.as_slice(),
-        b"trace\n0 0 t 0000000000000000 0 0 a tick\n".as_slice()
-    );
-    let node = Node {
-        guest: Flood::new(alloc),
-        ports: 1,
-        sends: 12,
-    };
-    let mut state = empty_sink(alloc)?;
-    assert!(rt; write_state(alloc, &case.header, 1, &node, &mut state).is_ok());
-    assert_eq!(rt; state.as_slice(), b"state b 12 0001 0000\n".as_slice());
+    }
+    assert!(rt; false);
     Ok(())
 }
 
 #[test]
-fn a_whole_trace_is_written_and_compared(rt: HostRuntime) -> Result<(), Fail> {
-    let alloc = rt.alloc();
-    let case = two_routers(alloc)?;
-    assert!(rt; case.is_some());
-    let Some(case) = case else {
+fn the_first_rows_stand_behind_the_line_trace(rt: HostRuntime) -> Result<(), Fail> {
+    if let Some(case) = two_routers(rt.alloc())? {
+        let mut sink = empty_sink(rt.alloc())?;
+        let rows = Vec::from_array(rt.alloc(), [first_row()])?;
+        let mut writer = TraceWriter::new(rt.alloc());
+        assert!(rt;
+            writer
+                .rows(&case.header, rows.as_slice(), &mut sink)
+                .is_ok()
+        );
+        assert_eq!(rt; writer.count(), 1);
+        assert_eq!(rt;
+            sink.as_slice(),
+            b"trace\n0 0 t 0000000000000000 0 0 a tick\n".as_slice()
+        );
         return Ok(());
-    };
-    let mut sink = empty_sink(alloc)?;
-    let ending = write_trace(alloc, &case, guests_of(alloc, &case)?, &mut sink);
-    assert!(rt; matches!(ending, Ok(Ending::Whole)));
-    assert_eq!(rt; sink.as_slice(), TWO_ROUTERS_TRACE);
-    let same = check(alloc, &case, guests_of(alloc, &case)?, TWO_ROUTERS_TRACE)?;
-    assert!(rt; matches!(same, Checked::Equal));
-    let shorter = check(alloc, &case, guests_of(alloc, &case)?, b"trace\n")?;
-    assert!(rt; matches!(shorter, Checked::Differs(6)));
+    }
+    assert!(rt; false);
+    Ok(())
+}
+
+#[test]
+fn a_state_is_written_by_itself(rt: HostRuntime) -> Result<(), Fail> {
+    if let Some(case) = two_routers(rt.alloc())? {
+        let mut sink = empty_sink(rt.alloc())?;
+        let node = Node {
+            guest: Flood::new(rt.alloc()),
+            ports: 1,
+            sends: 12,
+        };
+        assert!(rt; write_state(rt.alloc(), &case.header, 1, &node, &mut sink).is_ok());
+        assert_eq!(rt; sink.as_slice(), b"state b 12 0001 0000\n".as_slice());
+        return Ok(());
+    }
+    assert!(rt; false);
+    Ok(())
+}
+
+#[test]
+fn a_whole_trace_is_written(rt: HostRuntime) -> Result<(), Fail> {
+    if let Some(case) = two_routers(rt.alloc())? {
+        let mut sink = empty_sink(rt.alloc())?;
+        let guests = guests_of(rt.alloc(), &case)?;
+        let ending = write_trace(rt.alloc(), &case, guests, &mut sink);
+        assert!(rt; matches!(ending, Ok(Ending::Whole)));
+        assert_eq!(rt; sink.as_slice(), TWO_ROUTERS_TRACE);
+        return Ok(());
+    }
+    assert!(rt; false);
+    Ok(())
+}
+
+#[test]
+fn a_trace_is_compared(rt: HostRuntime) -> Result<(), Fail> {
+    if let Some(case) = two_routers(rt.alloc())? {
+        let guests = guests_of(rt.alloc(), &case)?;
+        let same = check(rt.alloc(), &case, guests, TWO_ROUTERS_TRACE)?;
+        assert!(rt; matches!(same, Checked::Equal));
+        let others = guests_of(rt.alloc(), &case)?;
+        let shorter = check(rt.alloc(), &case, others, b"trace\n")?;
+        assert!(rt; matches!(shorter, Checked::Differs(6)));
+        return Ok(());
+    }
+    assert!(rt; false);
     Ok(())
 }

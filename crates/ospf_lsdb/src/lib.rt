@@ -20,7 +20,7 @@ mod lsdb;
 mod origination;
 
 pub use kept::Kept;
-pub use key::LsaKey;
+pub use key::{LsaKey, key_of};
 pub use lsdb::Lsdb;
 pub use std::alloc::AllocError as NoMemory;
 

@@ -2,7 +2,9 @@ pub mod Choices
 pub mod PieceLaws
 pub mod SumLaws
 pub mod FletcherLaws
+pub mod Fronts
 pub mod LsaLaws
+pub mod RouterLsaLaws
 pub mod HelloLaws
 pub mod GrammarLaws
 pub mod PacketLaws

@@ -1,5 +1,5 @@
 -- LSAs: read one after the other as a loop does, and the laws of reading them.
-use Rattle.std.proofs.Common.{◌≡◌, ℕ, zero, suc, ◌+◌, ◌-◌, ◌<◌, ◌≤◌, ◌||◌, ltb, false, cond, List, [], ◌∷◌, ◌++◌, length, drop, Option, Some, None, refl, sym, ap, subst, ◌∙◌, append_assoc, arith}
+use Rattle.std.proofs.Common.{◌≡◌, ℕ, zero, suc, ◌+◌, ◌-◌, ◌<◌, ◌≤◌, ◌||◌, ltb, false, cond, List, [], ◌∷◌, ◌++◌, length, drop, Option, Some, None, refl, sym, ap, subst, ◌∙◌, arith}
 use Rattle.std.specs.Prelude.{option_map, slice_range}
 use Rattle.std.proofs.lemmas.Bool.{ltb-false, le-ltb, or_parts}
 use Rattle.std.proofs.lemmas.Option.{same_Some, option_and_then_some}
@@ -10,14 +10,7 @@ use Rattle.ospf_wire.specs.Fields.{field}
 use Rattle.ospf_wire.specs.Lsas.{header_of, StandsAtFront, AreLsas}
 use Rattle.ospf_wire.specs.Reading.{lsa_at, lsas_at, update_at}
 use Rattle.ospf_wire.proofs.Choices.{passed, mapped}
-
--- what was read before, and what is still read
-abbrev pub with_front : List Lsa → Option (List Lsa) → Option (List Lsa)
-with_front front read = option_map (λ ls. front ++ ls) read
-
-regroup : (front : List Lsa) (l : Lsa) (read : Option (List Lsa)) → with_front front (option_map (λ ls. l ∷ ls) read) ≡ with_front (front ++ l ∷ []) read
-regroup front l None = refl
-regroup front l (Some ls) = ap (λ (all : List Lsa). Some all) (sym (append_assoc front (l ∷ []) ls))
+use Rattle.ospf_wire.proofs.Fronts.{with_front, regroup}
 
 -- one more LSA is read
 pub lsas_more : (front : List Lsa) (count i : ℕ) (bytes : List ℕ) (l : Lsa) (total : Option (List Lsa)) → i < count → Some l ≡ lsa_at bytes

@@ -1,6 +1,7 @@
 pub mod Fields
 pub mod Pieces
 pub mod Lsas
+pub mod RouterLsas
 pub mod Hellos
 pub mod Sums
 pub mod Fletcher

@@ -1,12 +1,14 @@
--- What each reader makes of its bytes. The grammar is in Packets, Hellos and Lsas.
-use Rattle.std.specs.Prelude.{◌/◌, ◌%◌, ◌==◌, ◌&&◌, ◌||◌, ℕ, zero, suc, Bool, nat_lt, nat_le, if◌then◌else◌, List, [], ◌∷◌, length, drop, slice_range, Option, Some, None, option_map, option_and_then}
+-- What each reader makes of its bytes. The grammar is in Packets, Hellos, Lsas and RouterLsas.
+use Rattle.std.specs.Prelude.{◌/◌, ◌%◌, ◌==◌, ◌&&◌, ◌||◌, ℕ, zero, suc, Bool, nat_lt, nat_le, if◌then◌else◌, List, [], ◌∷◌, length, drop, slice_range, Option, Some, None, option_map, option_and_then, is_some}
 use Rattle.ospf_wire.specs.declared.lsa.Lsa.{Lsa}
+use Rattle.ospf_wire.specs.declared.router_lsa.RouterLink.{RouterLink}
 use Rattle.ospf_wire.specs.declared.hello.Hello.{Hello}
 use Rattle.ospf_wire.specs.declared.packet.Body.{Body}
 use Rattle.ospf_wire.specs.declared.packet.Body.TheVariants as body
 use Rattle.ospf_wire.specs.declared.packet.Packet.{Packet}
 use Rattle.ospf_wire.specs.Fields.{field}
 use Rattle.ospf_wire.specs.Lsas.{header_of}
+use Rattle.ospf_wire.specs.RouterLsas.{link_of, link_len}
 use Rattle.ospf_wire.specs.Sums.{packet_checksum}
 
 -- the items at the first so many pieces of n bytes
@@ -36,6 +38,29 @@ lsas_at (suc count) bytes =
 -- the LSAs of an Update
 unfoldable pub update_at : List ℕ → Option (List Lsa)
 update_at bytes = if nat_lt (length bytes) 4 then None else lsas_at (field 0 4 bytes) (drop 4 bytes)
+
+-- the link at the front, if it is whole
+unfoldable pub link_at : List ℕ → Option RouterLink
+link_at bytes = if nat_le (link_len bytes) (length bytes) then Some (link_of bytes) else None
+
+-- so many links, if the bytes are just these
+abbrev pub links_at : ℕ → List ℕ → Option (List RouterLink)
+links_at zero [] = Some []
+links_at zero (b ∷ bytes) = None
+links_at (suc count) bytes =
+    option_and_then (λ l. option_map (λ ls. l ∷ ls) (links_at count (drop (link_len bytes) bytes))) (link_at bytes)
+
+-- the links of a router-LSA with this body
+unfoldable pub router_links_at : List ℕ → Option (List RouterLink)
+router_links_at body = if nat_lt (length body) 4 then None else links_at (field 2 2 body) (drop 4 body)
+
+-- whether just so many links fill the bytes
+abbrev pub are_links : ℕ → List ℕ → Bool
+are_links count bytes = is_some (links_at count bytes)
+
+-- whether the body is one of a router-LSA: its links fill it exactly
+abbrev pub is_well_formed : List ℕ → Bool
+is_well_formed body = is_some (router_links_at body)
 
 -- a Hello with these neighbours
 abbrev pub hello_with : List ℕ → List ℕ → Hello

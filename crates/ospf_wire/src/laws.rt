@@ -1,6 +1,6 @@
 //! Laws of the definitions, each the contract of a function with an empty body.
 
-ghost use Rattle.std.specs.Prelude.{◌≡◌, ◌↔◌, ◌<◌, ◌++◌, ℕ, List, length, sum};
+ghost use Rattle.std.specs.Prelude.{◌≡◌, ◌↔◌, ◌<◌, ◌≤◌, All, Some, ◌++◌, ℕ, List, length, sum};
 ghost use Rattle.std.specs.Ordering.{ordering_reverse};
 ghost use Rattle.ospf_wire.specs.declared.lsa.Lsa.{Lsa};
 ghost use Rattle.ospf_wire.specs.declared.lsa.LsaHeader.{LsaHeader};
@@ -10,7 +10,9 @@ ghost use Rattle.ospf_wire.specs.Sums.{words, packet_sum, packet_checksum};
 ghost use Rattle.ospf_wire.specs.Fletcher.{AreCheckBytes, IsChecked, ls_checksum, with_sum};
 ghost use Rattle.ospf_wire.specs.Newer.{newer_of};
 ghost use Rattle.ospf_wire.specs.Packets.{IsPacket};
-ghost use Rattle.ospf_wire.specs.Reading.{packet_at};
+ghost use Rattle.ospf_wire.specs.declared.router_lsa.RouterLink.{RouterLink};
+ghost use Rattle.ospf_wire.specs.RouterLsas.{IsRouterBody, FitsLink, router_body_bytes};
+ghost use Rattle.ospf_wire.specs.Reading.{packet_at, router_links_at};
 
 /// What is read from bytes is the packet that they are, and the packet that they are is read.
 pub fn packets_are_read()
@@ -20,6 +22,16 @@ pub fn packets_are_read()
 /// Bytes are one packet at most.
 pub fn one_packet()
     ensures { (bytes : List ℕ) (p q : Packet) → IsPacket bytes p → IsPacket bytes q → p ≡ q }
+{}
+
+/// The links that are read from a body are those with which it is the body of a router-LSA.
+pub fn router_links_are_read()
+    ensures { (body : List ℕ) (ls : List RouterLink) → (router_links_at body ≡ Some ls) ↔ IsRouterBody body ls }
+{}
+
+/// The links for which a body is written are read from it.
+pub fn written_router_links_are_read()
+    ensures { (ls : List RouterLink) → length ls ≤ 65535 → All FitsLink ls → router_links_at (router_body_bytes ls) ≡ Some ls }
 {}
 
 /// The checksum over a packet whose checksum field is zero is right once it is written there. (The words

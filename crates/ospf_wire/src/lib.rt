@@ -8,7 +8,8 @@
 //! | `update.rt` | the body of a Link State Update |
 //! | `ack.rt` | the body of a Link State Acknowledgement |
 //! | `lsa.rt` | `LsaHeader` and `Lsa` |
-//! | `lists.rt` | `Ids`, `Lsas` and `LsaHeaders`, the lists in packets |
+//! | `router_lsa.rt` | `RouterLink`, and the body of a router-LSA: its links, read and written |
+//! | `lists.rt` | `Ids`, `Lsas`, `LsaHeaders` and `RouterLinks`, the lists in packets |
 //! | `packet_sum.rt` | the checksum of a packet |
 //! | `fletcher.rt` | the LS checksum of an LSA |
 //! | `instances.rt` | which instance of an LSA is the newer |
@@ -16,7 +17,8 @@
 //! | `laws.rt` | laws of the definitions |
 //!
 //! The one contract upwards: `decode` gives the packet exactly where the bytes are one of the grammar
-//! of `specs/Packets.antt`, and what `encode` writes is such bytes of its packet.
+//! of `specs/Packets.antt`, and what `encode` writes is such bytes of its packet. So it is of the body of
+//! a router-LSA, `router_links`, `router_body` and `specs/RouterLsas.antt`.
 #![tactic(auto)]
 
 mod ack;
@@ -29,6 +31,7 @@ mod lsa;
 mod numbers;
 mod packet;
 mod packet_sum;
+mod router_lsa;
 mod update;
 
 pub use fletcher::{fletcher_ok, fletcher_set};
@@ -36,13 +39,17 @@ pub use hello::Hello;
 pub use instances::newer;
 pub use laws::{
     ls_checksum_is_right, ls_checksum_is_the_only_one, newer_turns_round, one_packet,
-    packets_are_read, written_checksum_is_right,
+    packets_are_read, router_links_are_read, written_checksum_is_right,
+    written_router_links_are_read,
 };
-pub use lists::{Ids, LsaHeaders, Lsas};
+pub use lists::{Ids, LsaHeaders, Lsas, RouterLinks};
 pub use lsa::{FIRST_SEQ, LAST_SEQ, Lsa, LsaHeader, MAX_AGE};
 pub use packet::{Body, Packet, decode, encode};
 pub use packet_sum::ip_sum;
+pub use router_lsa::{RouterLink, is_well_formed, router_body, router_links};
 pub use std::alloc::AllocError as NoMemory;
 
+#[cfg(test)]
+mod router_lsa_tests;
 #[cfg(test)]
 mod tests;

@@ -2,7 +2,7 @@
 
 ghost use Rattle.std.specs.Prelude.{◌≡◌};
 
-use crate::{Lsa, LsaHeader};
+use crate::{Lsa, LsaHeader, RouterLink};
 use std::marker::Model;
 
 /// Router ids, in order.
@@ -112,6 +112,44 @@ impl LsaHeaders {
 
     /// The same headers, with no memory taken.
     pub fn into_vec(self) -> Vec<LsaHeader>
+        ensures { result.items ≡ self }
+    {
+        self.items
+    }
+}
+
+/// Links of a router-LSA, in order.
+#[derive(Drop)]
+pub struct RouterLinks {
+    items: Vec<RouterLink>,
+}
+
+impl Model for RouterLinks {
+    ghost use Rattle.std.specs.Prelude.{List};
+    ghost use Rattle.ospf_wire.specs.declared.router_lsa.RouterLink.{RouterLink};
+
+    ghost Value = { List RouterLink };
+
+    ghost view = { λ l. l.items.items };
+}
+
+impl RouterLinks {
+    /// The same links, with no memory taken.
+    pub fn from_vec(items: Vec<RouterLink>) -> RouterLinks
+        ensures { result ≡ items.items }
+    {
+        RouterLinks { items }
+    }
+
+    /// The links.
+    pub fn as_slice(&self) -> &[RouterLink]
+        ensures { result.now ≡ self.now }
+    {
+        self.items.as_slice()
+    }
+
+    /// The same links, with no memory taken.
+    pub fn into_vec(self) -> Vec<RouterLink>
         ensures { result.items ≡ self }
     {
         self.items

@@ -1,6 +1,6 @@
 use Rattle.std.proofs.Common.{◌≡◌, ◌-◌}
 use Rattle.ospf_wire.specs.Reading.{lsas_at}
-use Rattle.ospf_wire.proofs.LsaLaws.{with_front}
+use Rattle.ospf_wire.proofs.Fronts.{with_front}
 use Rattle.ospf_wire.proofs.update.read_lsas.Given as goal
 
 abbrev pub invariant-loop-place : goal.invariant-loop-place

@@ -1,0 +1,4 @@
+pub mod Lists
+pub mod Flooding
+pub mod Table
+pub mod Receiving
