@@ -17,7 +17,9 @@ use Rattle.dn_case.specs.Spelling.{digits, kind_word, address_text, net_text, fi
 use Rattle.dn_case.specs.Reading.{IsCaseText, IsCaseFront}
 use Rattle.dn_case.proofs.Fields.{free, each_true, free-append, name_free, hex_free}
 use Rattle.dn_case.proofs.Spelled.{AllFree, number_free, address_free}
-use Rattle.dn_case.proofs.RoundTrip.{lines_again, no_prefixes, name_again, external_spellable, ports_few}
+use Rattle.dn_case.proofs.CaseAgain.{lines_again}
+use Rattle.dn_case.proofs.PrefixLeads.{prefixes_spellable}
+use Rattle.dn_case.proofs.RoundTrip.{name_again, external_spellable, ports_few}
 
 free_join : (s a : ℕ) (fs : List (List ℕ)) → free s (a ∷ []) ≡ true → AllFree s fs → free s (join_with_byte a fs) ≡ true
 free_join s a [] h all = refl
@@ -98,7 +100,7 @@ header_spellable : (h : Heading) → IsHeading h → AllByRecursion IsSpellable 
 header_spellable h k =
     let routers = routers_spellable [] h.routers k.routers in
     let links = links_spellable h.routers [] h.links k.routers k.links in
-    let prefixes : AllByRecursion IsSpellable (flat_map prefix_lines h.routers) = subst (λ (l : List Line). AllByRecursion IsSpellable l) (sym (no_prefixes [] h.routers k.routers)) tt in
+    let prefixes : AllByRecursion IsSpellable (flat_map prefix_lines h.routers) = prefixes_spellable all_joined [] h.routers k.routers in
     let behind = all_joined (map router_line h.routers) _ routers (all_joined (map (link_line h.routers) h.links) _ links prefixes) in
     (omega arith, (omega (arith, k.period.1), (omega (arith, k.groups.1), (k.seed, behind))))
 

@@ -5,6 +5,7 @@ pub mod FeedLaws
 pub mod LinkLaws
 pub mod Leading
 pub mod Taken
+pub mod PrefixLaws
 pub mod Sound
 pub mod Finishing
 pub mod Judging
@@ -12,5 +13,7 @@ pub mod OneCase
 pub mod Fields
 pub mod Spelled
 pub mod RoundTrip
+pub mod PrefixLeads
+pub mod CaseAgain
 pub mod Fronts
 pub mod TraceSectionLaws

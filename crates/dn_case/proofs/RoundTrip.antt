@@ -1,7 +1,7 @@
--- The spelling of a case that meets the rules is read again.
+-- The lines of each section of a case that meets the rules are read again.
 use Rattle.std.proofs.Common.{◌≡◌, ◌≢◌, ◌⊎◌, inl, inr, unwrap_or, ℕ, ◌+◌, ◌*◌, ◌<◌, ◌≤◌, ◌^◌, zero, suc, Bool, true, false, cond, ◌&&◌, ◌||◌, nat_eq, nat_le, nat_lt, eqb, List, [], ◌∷◌, ◌++◌, length, map, take, get_or, Option, Some, None, Ok, IsTrue, refl, sym, ap, subst, ◌∙◌, arith, rules, tests, append_assoc}
 use Rattle.std.specs.Prelude.{position}
-use Rattle.std.specs.List.{flat_map, list_any, position_or_len}
+use Rattle.std.specs.List.{list_any, position_or_len}
 use Rattle.std.specs.Cmp.Lexicographic.{pointwise, bytes_decides}
 use Rattle.std.proofs.lemmas.Bool.{eqb-true}
 use Rattle.std.proofs.lemmas.List.{append-nil, length-append, length-take, get_or-take}
@@ -15,54 +15,54 @@ use Rattle.dn_model.specs.declared.feed.External.{External as ExternalDef}
 use Rattle.dn_model.specs.Names.{is_name}
 use Rattle.dn_model.specs.Routers.{number_of, name_at}
 use Rattle.dn_model.specs.Links.{names, ports_of}
-use Rattle.dn_model.specs.Cases.{Heading, Recording, AreRouters, IsLink, AreLinks, IsHeading, IsAsked, IsExternal, AreExternals, IsRecording}
+use Rattle.dn_model.specs.Cases.{Heading, IsRouter, AreRouters, IsLink, AreLinks, IsHeading, IsAsked, IsExternal, AreExternals}
 use Rattle.dn_text.specs.declared.decimals.Number.TheVariants.{Is}
 use Rattle.dn_text.specs.Hexadecimals.{unhex}
 use Rattle.dn_text.proofs.HexadecimalLaws.{unhex_again, is_hex_again, length-hex}
 use Rattle.dn_case.specs.declared.standing.Standing.{Standing}
 use Rattle.dn_case.specs.declared.place.Place.{Place}
 use Rattle.dn_case.specs.declared.place.Place.TheVariants as place
-use Rattle.dn_case.specs.Shapes.{Line, Version, Period, Groups, Seed, Feed, External, End}
+use Rattle.dn_case.specs.Shapes.{Line, Version, Period, Groups, Seed, External}
 use Rattle.dn_case.specs.Standings.{place_of, may_follow, between, ask_fits, lacks_port, input_of, last_group, first_of, table, after, judged, read_line, start}
-use Rattle.dn_case.specs.Spelling.{spelled, IsSpellable, number_lines, router_line, link_line, prefix_lines, asked_by, external_line, header_lines, lines_of}
-use Rattle.dn_case.specs.Reading.{Leads, case_of, IsCaseText}
+use Rattle.dn_case.specs.Spelling.{spelled, IsSpellable, number_lines, router_line, link_line, asked_by, external_line}
+use Rattle.dn_case.specs.Reading.{Leads, case_of}
 use Rattle.dn_case.proofs.FeedLaws.{last_group-append}
 use Rattle.dn_case.proofs.LinkLaws.{ports_of-append, ports_of-nil}
-use Rattle.dn_case.proofs.Leading.{leads_join}
+use Rattle.dn_case.proofs.PrefixLaws.{same_number, names_joined}
 use Rattle.dn_case.proofs.RouterLaws.{nobody, name_of_number, nowhere}
 use Rattle.dn_case.proofs.Spelled.{spelled_again}
 use Rattle.dn_case.proofs.Taken.{neither}
 
 -- one line that follows, and has no cause
-reads_on : (s : Standing) (l : Line) → IsSpellable l → may_follow s.place (place_of l) ≡ true → first_of (table s l) ≡ None → read_line s (spelled l) ≡ Ok (after s l)
+pub reads_on : (s : Standing) (l : Line) → IsSpellable l → may_follow s.place (place_of l) ≡ true → first_of (table s l) ≡ None → read_line s (spelled l) ≡ Ok (after s l)
 reads_on s l h m free =
     ap (λ (o : Option Line). judged s o) (spelled_again l h) ∙ rw (m, free) refl
 
-le_true : (m n : ℕ) → m ≤ n → nat_le m n ≡ true
+pub le_true : (m n : ℕ) → m ≤ n → nat_le m n ≡ true
 le_true m n h = search (rules, tests)
 
 lt_true : (m n : ℕ) → m < n → nat_lt m n ≡ true
 lt_true m n h = search (rules, tests)
 
-le_false : (m n : ℕ) → n < m → nat_le m n ≡ false
+pub le_false : (m n : ℕ) → n < m → nat_le m n ≡ false
 le_false m n h = search (rules, tests)
 
 lt_false : (m n : ℕ) → n ≤ m → nat_lt m n ≡ false
 lt_false m n h = search (rules, tests)
 
-both_true : (a b : Bool) → a ≡ true → b ≡ true → (a && b) ≡ true
+pub both_true : (a b : Bool) → a ≡ true → b ≡ true → (a && b) ≡ true
 both_true true b p q = q
 both_true false b p q = p
 
-is_between : (low high n : ℕ) → low ≤ n → n ≤ high → between low high (Is n) ≡ true
+pub is_between : (low high n : ℕ) → low ≤ n → n ≤ high → between low high (Is n) ≡ true
 is_between low high n h k = both_true _ _ (le_true low n h) (le_true n high k)
 
 -- ---- the numbers
 
-abbrev numbered_at : Heading → Standing
+abbrev pub numbered_at : Heading → Standing
 numbered_at h = record { place = place.Seed; period = h.period; groups = h.groups; seed = h.seed; routers = []; links = []; feed = [] }
 
-numbers_lead : (h : Heading) → IsHeading h → Leads start (map spelled (number_lines h)) (numbered_at h)
+pub numbers_lead : (h : Heading) → IsHeading h → Leads start (map spelled (number_lines h)) (numbered_at h)
 unfolding may_follow
 numbers_lead h k =
     let s1 = after start (Version (Is 1)) in
@@ -86,29 +86,47 @@ numbers_lead h k =
 
 -- ---- the routers
 
-abbrev at : Place → List RouterDef → Standing → Standing
+abbrev pub at : Place → List RouterDef → Standing → Standing
 at p rs s = record s { place = p; routers = rs }
 
 router_free : (p : Place) (s : Standing) (before : List RouterDef) (r : RouterDef) → number_of before r.name ≡ None → length before < 64 → first_of (table (at p before s) (router_line r)) ≡ None
 router_free p s before r apart few = rw (apart, le_false 64 (length before) few) refl
 
-bare_is : (r : RouterDef) → r.prefixes ≡ [] → (let x : RouterDef = record { name = r.name; kind = r.kind; prefixes = [] } in x ≡ r)
-bare_is r bare = sym (ap (λ ps. (let x : RouterDef = record { name = r.name; kind = r.kind; prefixes = ps } in x)) bare)
+-- a router without its prefixes, as its line gives it
+abbrev pub bare : RouterDef → RouterDef
+bare r = record { name = r.name; kind = r.kind; prefixes = [] }
 
-routers_lead : (p : Place) (s : Standing) (before rs : List RouterDef) → may_follow p place.Router ≡ true → (rs ≡ [] → p ≡ place.Router) → AreRouters before rs → length (before ++ rs) ≤ 64 →
-    Leads (at p before s) (map spelled (map router_line rs)) (at place.Router (before ++ rs) s)
+abbrev pub bares : List RouterDef → List RouterDef
+bares rs = map bare rs
+
+pub bare_names : (rs : List RouterDef) → map (λ r. r.name) (bares rs) ≡ map (λ r. r.name) rs
+bare_names [] = refl
+bare_names (r ∷ rs) = ap (λ (names : List (List ℕ)). r.name ∷ names) (bare_names rs)
+
+pub length_bares : (rs : List RouterDef) → length (bares rs) ≡ length rs
+length_bares [] = refl
+length_bares (r ∷ rs) = ap suc (length_bares rs)
+
+-- they meet the rules, too
+pub are_bare : (before b rs : List RouterDef) → map (λ r. r.name) before ≡ map (λ r. r.name) b → AreRouters before rs → AreRouters b (bares rs)
+are_bare before b [] same h = tt
+are_bare before b (r ∷ rs) same h =
+    let is : IsRouter b (bare r) = record { named = h.0.named; apart = same_number b before r.name (sym same) ∙ h.0.apart; kind = h.0.kind; few_prefixes = omega arith; prefixes = tt } in
+    (is, are_bare (before ++ r ∷ []) (b ++ bare r ∷ []) rs (names_joined before (r ∷ []) ∙ ap (λ (names : List (List ℕ)). names ++ r.name ∷ []) same ∙ sym (names_joined b (bare r ∷ []))) h.1)
+
+pub routers_lead : (p : Place) (s : Standing) (before rs : List RouterDef) → may_follow p place.Router ≡ true → (rs ≡ [] → p ≡ place.Router) → AreRouters before (bares rs) → length (before ++ bares rs) ≤ 64 →
+    Leads (at p before s) (map spelled (map router_line rs)) (at place.Router (before ++ bares rs) s)
 unfolding may_follow
 routers_lead p s before [] m last are few =
     ap (λ (q : Place). at q before s) (last refl) ∙ ap (λ (rs : List RouterDef). at place.Router rs s) (sym (append-nil before))
 routers_lead p s before (r ∷ rs) m last are few =
-    let short : length before < 64 = omega (arith, few, length-append before (r ∷ rs)) in
-    let regrouped : (before ++ r ∷ []) ++ rs ≡ before ++ r ∷ rs = append_assoc before (r ∷ []) rs in
-    let more = routers_lead place.Router s (before ++ r ∷ []) rs refl (λ _. refl) are.1 (rw regrouped few) in
+    let short : length before < 64 = omega (arith, few, length-append before (bare r ∷ bares rs)) in
+    let regrouped : (before ++ bare r ∷ []) ++ bares rs ≡ before ++ bare r ∷ bares rs = append_assoc before (bare r ∷ []) (bares rs) in
+    let more = routers_lead place.Router s (before ++ bare r ∷ []) rs refl (λ _. refl) are.1 (rw regrouped few) in
     let read : read_line (at p before s) (spelled (router_line r)) ≡ Ok (after (at p before s) (router_line r)) = reads_on (at p before s) (router_line r) (are.0.named, are.0.kind) m (router_free p s before r are.0.apart short) in
-    let is : after (at p before s) (router_line r) ≡ at place.Router (before ++ r ∷ []) s = ap (λ (x : RouterDef). at place.Router (before ++ x ∷ []) s) (bare_is r are.0.prefixes) in
-    (at place.Router (before ++ r ∷ []) s, read ∙ ap (λ (t : Standing). Ok t) is, subst (λ (x : List RouterDef). Leads (at place.Router (before ++ r ∷ []) s) (map spelled (map router_line rs)) (at place.Router x s)) regrouped more)
+    (at place.Router (before ++ bare r ∷ []) s, read, subst (λ (x : List RouterDef). Leads (at place.Router (before ++ bare r ∷ []) s) (map spelled (map router_line rs)) (at place.Router x s)) regrouped more)
 
-not_none : (rs : List RouterDef) → 1 ≤ length rs → rs ≡ [] → place.Seed ≡ place.Router
+pub not_none : (rs : List RouterDef) → 1 ≤ length rs → rs ≡ [] → place.Seed ≡ place.Router
 not_none [] some e = absurd (omega arith)
 not_none (r ∷ rs) some e = absurd cc
 
@@ -128,7 +146,7 @@ any_none p (r ∷ rs) (suc k) none inside = any_none p rs k (neither (p r) _ non
 own : (text : List ℕ) → pointwise nat_eq text text ≡ true
 own text = (bytes_decides text text).1 refl
 
-number_again : (rs : List RouterDef) (i : ℕ) → AreRouters [] rs → i < length rs → number_of rs (get_or rs i nobody).name ≡ Some i
+pub number_again : (rs : List RouterDef) (i : ℕ) → AreRouters [] rs → i < length rs → number_of rs (get_or rs i nobody).name ≡ Some i
 unfolding number_of
 number_again rs i h inside =
     let test = λ (r : RouterDef). pointwise nat_eq (get_or rs i nobody).name r.name in
@@ -139,16 +157,16 @@ number_again rs i h inside =
     let at : position_or_len test rs ≡ i = position_or_len_is test rs i nobody (omega arith) far (λ _. own (get_or rs i nobody).name) in
     rw (at, lt_true i (length rs) inside) refl
 
-record IsReadAgain (rs : List RouterDef) (i : ℕ) : Type 0 where
-  number : number_of rs (name_at rs i) ≡ Some i
-  named : IsTrue (is_name (name_at rs i))
+pub record IsReadAgain (rs : List RouterDef) (i : ℕ) : Type 0 where
+  pub number : number_of rs (name_at rs i) ≡ Some i
+  pub named : IsTrue (is_name (name_at rs i))
 
 all_named : (before rs : List RouterDef) (i : ℕ) → AreRouters before rs → i < length rs → IsTrue (is_name (get_or rs i nobody).name)
 all_named before [] i h inside = absurd (omega arith)
 all_named before (r ∷ rs) zero h inside = h.0.named
 all_named before (r ∷ rs) (suc i) h inside = all_named (before ++ r ∷ []) rs i h.1 (omega arith)
 
-read_again : (rs : List RouterDef) (i : ℕ) → AreRouters [] rs → i < length rs → IsReadAgain rs i
+pub read_again : (rs : List RouterDef) (i : ℕ) → AreRouters [] rs → i < length rs → IsReadAgain rs i
 read_again rs i h inside =
     let is = name_of_number rs i inside in
     record {
@@ -173,11 +191,20 @@ names_differ rs i j p q apart =
 
 -- ---- the links
 
-abbrev with_links : Place → List LinkDef → Standing → Standing
+pub name_of_bare : (rs : List RouterDef) (i : ℕ) → name_at (bares rs) i ≡ name_at rs i
+name_of_bare [] i = refl
+name_of_bare (r ∷ rs) zero = refl
+name_of_bare (r ∷ rs) (suc i) = name_of_bare rs i
+
+pub lines_of_bare : (rs : List RouterDef) (links : List LinkDef) → map (link_line (bares rs)) links ≡ map (link_line rs) links
+lines_of_bare rs [] = refl
+lines_of_bare rs (l ∷ links) = rw (name_of_bare rs l.a, name_of_bare rs l.b, lines_of_bare rs links) refl
+
+abbrev pub with_links : Place → List LinkDef → Standing → Standing
 with_links p links s = record s { place = p; links = links }
 
 -- the place behind these links
-abbrev behind_links : Place → List LinkDef → Place
+abbrev pub behind_links : Place → List LinkDef → Place
 behind_links p [] = p
 behind_links p (l ∷ ls) = place.Link
 
@@ -200,7 +227,7 @@ at_link : (s : Standing) (before links : List LinkDef) → Leads (with_links pla
 at_link s before [] h = h
 at_link s before (l ∷ links) h = h
 
-links_lead : (p : Place) (s : Standing) (before links : List LinkDef) → may_follow p place.Link ≡ true → AreRouters [] s.routers → AreLinks (length s.routers) before links → length (before ++ links) ≤ 256 →
+pub links_lead : (p : Place) (s : Standing) (before links : List LinkDef) → may_follow p place.Link ≡ true → AreRouters [] s.routers → AreLinks (length s.routers) before links → length (before ++ links) ≤ 256 →
     Leads (with_links p before s) (map spelled (map (link_line s.routers) links)) (with_links (behind_links p links) (before ++ links) s)
 unfolding may_follow
 links_lead p s before [] m rs h few = ap (λ (x : List LinkDef). with_links p x s) (sym (append-nil before))
@@ -262,10 +289,10 @@ ports_few n r ls h = few_ports n r [] ls (subst (λ (k : ℕ). k ≤ 16) (sym (p
 
 -- ---- the externals
 
-abbrev with_feed : Place → List ExternalDef → Standing → Standing
+abbrev pub with_feed : Place → List ExternalDef → Standing → Standing
 with_feed p feed s = record s { place = p; feed = feed }
 
-abbrev behind_feed : Place → List ExternalDef → Place
+abbrev pub behind_feed : Place → List ExternalDef → Place
 behind_feed p [] = p
 behind_feed p (x ∷ xs) = place.External
 
@@ -315,7 +342,7 @@ at_external : (s : Standing) (before xs : List ExternalDef) → Leads (with_feed
 at_external s before [] h = h
 at_external s before (x ∷ xs) h = h
 
-externals_lead : (p : Place) (s : Standing) (before xs : List ExternalDef) → may_follow p place.External ≡ true → IsHeading (case_of s).header → AreExternals (case_of s).header (last_group 0 before) xs →
+pub externals_lead : (p : Place) (s : Standing) (before xs : List ExternalDef) → may_follow p place.External ≡ true → IsHeading (case_of s).header → AreExternals (case_of s).header (last_group 0 before) xs →
     Leads (with_feed p before s) (map spelled (map (external_line s.routers) xs)) (with_feed (behind_feed p xs) (before ++ xs) s)
 unfolding may_follow
 externals_lead p s before [] m h are = ap (λ (x : List ExternalDef). with_feed p x s) (sym (append-nil before))
@@ -331,72 +358,3 @@ externals_lead p s before (x ∷ xs) m h are =
     let on : Leads (with_feed place.External (before ++ x ∷ []) s) (map spelled (map (external_line s.routers) xs)) (with_feed place.External (before ++ x ∷ xs) s) =
     subst (λ (y : List ExternalDef). Leads (with_feed place.External (before ++ x ∷ []) s) (map spelled (map (external_line s.routers) xs)) (with_feed place.External y s)) regrouped (at_external s (before ++ x ∷ []) xs more) in
     (with_feed place.External (before ++ x ∷ []) s, read ∙ ap (λ (t : Standing). Ok t) (external_is p s before x h is), on)
-
--- ---- the whole
-
-abbrev headed : Place → Recording → Standing
-headed p c = record { place = p; period = c.header.period; groups = c.header.groups; seed = c.header.seed; routers = c.header.routers; links = c.header.links; feed = [] }
-
-map_joined : (xs ys : List Line) → map spelled (xs ++ ys) ≡ map spelled xs ++ map spelled ys
-map_joined [] ys = refl
-map_joined (x ∷ xs) ys = ap (λ (l : List (List ℕ)). spelled x ∷ l) (map_joined xs ys)
-
-lines_join : (xs ys : List Line) (s t u : Standing) → Leads s (map spelled xs) t → Leads t (map spelled ys) u → Leads s (map spelled (xs ++ ys)) u
-lines_join xs ys s t u h k = subst (λ (l : List (List ℕ)). Leads s l u) (sym (map_joined xs ys)) (leads_join (map spelled xs) (map spelled ys) s t u h k)
-
-pub no_prefixes : (before rs : List RouterDef) → AreRouters before rs → flat_map prefix_lines rs ≡ []
-no_prefixes before [] h = refl
-no_prefixes before (r ∷ rs) h = rw (h.0.prefixes, no_prefixes (before ++ r ∷ []) rs h.1) refl
-
-header_leads : (c : Recording) → IsHeading c.header → Leads start (map spelled (header_lines c.header)) (headed (behind_links place.Router c.header.links) c)
-unfolding may_follow
-header_leads c h =
-    let k = c.header in
-    let numbers = numbers_lead k h in
-    let routers = routers_lead place.Seed (numbered_at k) [] k.routers refl (not_none k.routers h.some) h.routers h.few in
-    let routed = at place.Router k.routers (numbered_at k) in
-    let links = links_lead place.Router routed [] k.links refl h.routers h.links h.few_links in
-    let all = headed (behind_links place.Router k.links) c in
-    let bare : map (link_line k.routers) k.links ++ flat_map prefix_lines k.routers ≡ map (link_line k.routers) k.links =
-    ap (λ (l : List Line). map (link_line k.routers) k.links ++ l) (no_prefixes [] k.routers h.routers) ∙ append-nil (map (link_line k.routers) k.links) in
-    let behind : Leads routed (map spelled (map (link_line k.routers) k.links ++ flat_map prefix_lines k.routers)) all =
-    subst (λ (l : List Line). Leads routed (map spelled l) all) (sym bare) links in
-    lines_join (number_lines k) _ start (numbered_at k) all numbers
-    (lines_join (map router_line k.routers) _ (numbered_at k) routed all routers behind)
-
-feed_follows : (links : List LinkDef) → may_follow (behind_links place.Router links) place.Feed ≡ true
-unfolding may_follow
-feed_follows [] = refl
-feed_follows (l ∷ links) = refl
-
-end_follows : (xs : List ExternalDef) → may_follow (behind_feed place.Feed xs) place.End ≡ true
-unfolding may_follow
-end_follows [] = refl
-end_follows (x ∷ xs) = refl
-
-abbrev ended : Recording → Standing
-ended c = record { place = place.End; period = c.header.period; groups = c.header.groups; seed = c.header.seed; routers = c.header.routers; links = c.header.links; feed = c.feed }
-
-end_leads : (c : Recording) → Leads (with_feed (behind_feed place.Feed c.feed) c.feed (headed place.Feed c)) (map spelled (End ∷ [])) (ended c)
-end_leads c =
-    let s = with_feed (behind_feed place.Feed c.feed) c.feed (headed place.Feed c) in
-    (ended c, reads_on s End tt (end_follows c.feed) refl, refl)
-
-feed_leads : (c : Recording) → IsRecording c → Leads (headed (behind_links place.Router c.header.links) c) (map spelled (Feed ∷ (map (external_line c.header.routers) c.feed ++ (End ∷ [])))) (ended c)
-unfolding may_follow
-feed_leads c h =
-    let s = headed (behind_links place.Router c.header.links) c in
-    let t = headed place.Feed c in
-    let u = with_feed (behind_feed place.Feed c.feed) c.feed t in
-    let externals = externals_lead place.Feed t [] c.feed refl h.header h.feed in
-    (t, reads_on s Feed tt (feed_follows c.header.links) refl, lines_join (map (external_line c.header.routers) c.feed) (End ∷ []) t u (ended c) externals (end_leads c))
-
--- The lines of a case that meets the rules are a case text of that case.
-pub lines_again : (c : Recording) → IsRecording c → IsCaseText (map spelled (lines_of c)) c
-lines_again c h =
-    record {
-      last = ended c;
-      leads = lines_join (header_lines c.header) _ start (headed (behind_links place.Router c.header.links) c) (ended c) (header_leads c h.header) (feed_leads c h);
-      ends = refl;
-      says = refl;
-    }

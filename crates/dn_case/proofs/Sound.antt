@@ -1,5 +1,5 @@
 -- What stands after lines that were read meets the rules of a case, as far as the lines have come.
-use Rattle.std.proofs.Common.{◌≡◌, ℕ, ◌*◌, ◌≤◌, ◌<◌, ◌^◌, zero, suc, true, false, not, ◌&&◌, ◌||◌, nat_eq, nat_le, nat_lt, List, [], ◌∷◌, ◌++◌, length, get_or, Option, None, unwrap_or, Ok, refl, sym, ap, subst, ◌∙◌, append_assoc, arith}
+use Rattle.std.proofs.Common.{◌≡◌, ℕ, ◌*◌, ◌≤◌, ◌<◌, ◌^◌, Bool, true, false, not, ◌&&◌, ◌||◌, nat_eq, nat_le, nat_lt, List, [], ◌∷◌, ◌++◌, length, get_or, Option, None, unwrap_or, Ok, refl, sym, ap, subst, ◌∙◌, append_assoc, arith}
 use Rattle.std.specs.Prelude.{slice_get}
 use Rattle.std.specs.List.{AllByRecursion}
 use Rattle.std.specs.Option.{option_map_or}
@@ -7,13 +7,14 @@ use Rattle.std.specs.Cmp.Lexicographic.{pointwise}
 use Rattle.std.proofs.lemmas.List.{append-nil, length-append}
 use Rattle.dn_model.specs.declared.router.RouterDef.{RouterDef}
 use Rattle.dn_model.specs.declared.router.Kind.{Kind}
-use Rattle.dn_model.specs.declared.router.Kind.TheVariants as kind
+use Rattle.dn_model.specs.declared.router.Prefix.{Prefix as PrefixDef}
 use Rattle.dn_model.specs.declared.link.Link.{Link as LinkDef}
 use Rattle.dn_model.specs.declared.feed.External.{External as ExternalDef}
 use Rattle.dn_model.specs.Names.{is_name}
+use Rattle.dn_model.specs.Kinds.{is_built, IsPrefix}
 use Rattle.dn_model.specs.Routers.{number_of}
 use Rattle.dn_model.specs.Links.{ports_of}
-use Rattle.dn_model.specs.Cases.{Heading, Recording, IsRouter, AreRouters, IsLink, AreLinks, IsAsked, IsExternal, AreExternals, IsRecording}
+use Rattle.dn_model.specs.Cases.{Heading, Recording, IsRouter, AreRouters, IsLink, AreLinks, IsAsked, IsExternal, AreExternals, IsHeading, IsRecording}
 use Rattle.dn_text.specs.declared.decimals.Number.{Number}
 use Rattle.dn_text.specs.Hexadecimals.{unhex}
 use Rattle.dn_text.proofs.HexadecimalLaws.{of_hex}
@@ -23,9 +24,10 @@ use Rattle.dn_case.specs.declared.place.Place.{Place}
 use Rattle.dn_case.specs.declared.place.Place.TheVariants as place
 use Rattle.dn_case.specs.declared.cause.Cause.TheVariants as cause
 use Rattle.dn_case.specs.Shapes.{Ask, Cmd, Down, Up, Line, Version, Period, Groups, Seed, Router, Link, Prefix, Feed, External, End}
-use Rattle.dn_case.specs.Standings.{place_of, may_follow, between, below, value, is_known, is_flood, router_is, ports_at, ask_fits, number_at, input_of, lacks_port, last_group, first_of, table, after, read_line, start}
+use Rattle.dn_case.specs.Standings.{place_of, may_follow, between, below, value, is_known, is_rip, is_flood, router_is, has_net, has_host_bits, net_fits, address, with_prefix, ports_at, ask_fits, number_at, input_of, lacks_port, last_group, first_of, table, after, read_line, start}
 use Rattle.dn_case.specs.Reading.{Leads, case_of}
 use Rattle.dn_case.proofs.RouterLaws.{nobody, numbered, differ}
+use Rattle.dn_case.proofs.PrefixLaws.{address_fits, len_fits, no_host_bits, cost_fits, routers_with_prefix, length_with_prefix}
 use Rattle.dn_case.proofs.Taken.{is_taken, IsWell, well, free_test, held, both, neither, is_below, is_above, at_most, less, in_range, under, known_is, unknown_is}
 
 -- ---- one more at the end
@@ -116,11 +118,11 @@ before_link place.Router c m h = (h.0, h.2)
 before_link place.Link c m h = h
 before_link _ c m h = absurd cc
 
-before_prefix : (p : Place) (c : Recording) → may_follow p place.Prefix ≡ true → Sound p c → IsRecording c
+before_prefix : (p : Place) (c : Recording) → may_follow p place.Prefix ≡ true → Sound p c → IsRecording c × (c.feed ≡ [])
 unfolding may_follow
-before_prefix place.Router c m h = h.0
-before_prefix place.Link c m h = h.0
-before_prefix place.Prefix c m h = h.0
+before_prefix place.Router c m h = (h.0, h.2)
+before_prefix place.Link c m h = h
+before_prefix place.Prefix c m h = h
 before_prefix _ c m h = absurd cc
 
 before_feed : (p : Place) (c : Recording) → may_follow p place.Feed ≡ true → Sound p c → IsRecording c
@@ -153,12 +155,12 @@ no_feed h xs none = subst (λ (x : List ExternalDef). AreExternals h 0 x) (sym n
 few_none : (ls : List LinkDef) → ls ≡ [] → length ls ≤ 256
 few_none ls none = subst (λ (x : List LinkDef). length x ≤ 256) (sym none) (omega arith)
 
-router_sound : (s : Standing) (name : List ℕ) (k : Kind) → IsOpen (case_of s) → (is_name name ≡ true) × (k ≡ kind.Flood) → first_of (table s (Router name k)) ≡ None → Sound place.Router (case_of (after s (Router name k)))
+router_sound : (s : Standing) (name : List ℕ) (k : Kind) → IsOpen (case_of s) → (is_name name ≡ true) × (is_built k ≡ true) → first_of (table s (Router name k)) ≡ None → Sound place.Router (case_of (after s (Router name k)))
 router_sound s name k open_ shape free =
     let twice = free_test (is_known s name) cause.Twice _ free in
     let many = free_test (nat_le 64 (length s.routers)) cause.Many _ twice.1 in
     let r : RouterDef = record { name = name; kind = k; prefixes = [] } in
-    let is : IsRouter s.routers r = record { named = shape.0; apart = unknown_is (number_of s.routers name) twice.0; kind = shape.1; prefixes = refl } in
+    let is : IsRouter s.routers r = record { named = shape.0; apart = unknown_is (number_of s.routers name) twice.0; kind = shape.1; few_prefixes = omega arith; prefixes = tt } in
     let small = is_below 64 (length s.routers) many.0 in
     let long = length-append s.routers (r ∷ []) in (
       record {
@@ -236,32 +238,71 @@ link_sound s a b delay cost h free =
       h.1,
     )
 
--- ---- a prefix: none is taken while all routers flood
+-- ---- a prefix
 
-all_flood : (before rs : List RouterDef) (i : ℕ) → AreRouters before rs → (get_or rs i nobody).kind ≡ kind.Flood
-all_flood before [] i h = refl
-all_flood before (r ∷ rs) zero h = h.0.kind
-all_flood before (r ∷ rs) (suc i) h = all_flood (before ++ r ∷ []) rs i h.1
-
-prefix_floods : (s : Standing) (name : List ℕ) → AreRouters [] s.routers → is_known s name ≡ true → router_is (λ r. is_flood r.kind) s name ≡ true
-prefix_floods s name h known =
-    let i = unwrap_or (number_of s.routers name) 0 in
+router_test : (test : RouterDef → Bool) (s : Standing) (name : List ℕ) → is_known s name ≡ true → router_is test s name ≡ test (get_or s.routers (number_at s name) nobody)
+router_test test s name known =
     let is = known_is (number_of s.routers name) known in
-    let at = numbered s.routers name i is in
-    let router = get_or s.routers i nobody in
-    ap (λ (o : Option ℕ). option_map_or (λ i. option_map_or (λ r. is_flood r.kind) (slice_get s.routers i) false) o false) is
-    ∙ ap (λ (o : Option RouterDef). option_map_or (λ r. is_flood r.kind) o false) at.found
-    ∙ ap is_flood (all_flood [] s.routers i h)
+    let at = numbered s.routers name (number_at s name) is in
+    ap (λ (o : Option ℕ). option_map_or (λ i. option_map_or test (slice_get s.routers i) false) o false) is
+    ∙ ap (λ (o : Option RouterDef). option_map_or test o false) at.found
 
-no_prefix : (s : Standing) (name : List ℕ) (net : Net) (cost : Number) → AreRouters [] s.routers → first_of (table s (Prefix name net cost)) ≡ None → ⊥
-no_prefix s name net cost h free =
-    let range = free_test _ cause.Range _ free in
+abbrev prefix_at : Net → Number → PrefixDef
+prefix_at net cost = record { address = address net; len = value net.len; cost = value cost }
+
+record IsNewPrefix (s : Standing) (i : ℕ) (p : PrefixDef) : Type 0 where
+  inside : i < length s.routers
+  few : length (get_or s.routers i nobody).prefixes < 32
+  is : IsPrefix (get_or s.routers i nobody).kind (get_or s.routers i nobody).prefixes p
+
+new_prefix : (s : Standing) (name : List ℕ) (net : Net) (cost : Number) → first_of (table s (Prefix name net cost)) ≡ None → IsNewPrefix s (number_at s name) (prefix_at net cost)
+new_prefix s name net cost free =
+    let r = get_or s.routers (number_at s name) nobody in
+    let range = free_test (not (net_fits net && between 1 65535 cost) || router_is (λ r. is_rip r.kind && not (between 1 15 cost)) s name) cause.Range _ free in
     let unknown = free_test (not (is_known s name)) cause.Name _ range.1 in
-    let twice = free_test _ cause.Twice _ unknown.1 in
-    let kind = free_test (router_is (λ r. is_flood r.kind) s name) cause.Kind _ twice.1 in
-    let floods = prefix_floods s name h (held _ unknown.0) in
-    let off : true ≡ false = sym floods ∙ kind.0 in
-    cc
+    let twice = free_test (router_is (λ r. has_net net r.prefixes) s name) cause.Twice _ unknown.1 in
+    let floods = free_test (router_is (λ r. is_flood r.kind) s name) cause.Kind _ twice.1 in
+    let host = free_test (has_host_bits net) cause.Host _ floods.1 in
+    let many = free_test (router_is (λ r. nat_le 32 (length r.prefixes)) s name) cause.Many _ host.1 in
+    let known = held (is_known s name) unknown.0 in
+    let ranges = neither (not (net_fits net && between 1 65535 cost)) _ range.0 in
+    let fits = both (net_fits net) (between 1 65535 cost) (held _ ranges.0) in
+    let rip : (is_rip r.kind && not (between 1 15 cost)) ≡ false = sym (router_test (λ r. is_rip r.kind && not (between 1 15 cost)) s name known) ∙ ranges.1 in
+    let apart : has_net net r.prefixes ≡ false = sym (router_test (λ r. has_net net r.prefixes) s name known) ∙ twice.0 in
+    let no_flood : is_flood r.kind ≡ false = sym (router_test (λ r. is_flood r.kind) s name known) ∙ floods.0 in
+    let few : nat_le 32 (length r.prefixes) ≡ false = sym (router_test (λ r. nat_le 32 (length r.prefixes)) s name known) ∙ many.0 in
+    record {
+      inside = (numbered s.routers name _ (known_is (number_of s.routers name) known)).inside;
+      few = is_below 32 (length r.prefixes) few;
+      is = record {
+        len = len_fits net fits.0;
+        address = address_fits net fits.0;
+        no_host = no_host_bits net host.0;
+        cost = cost_fits r.kind cost fits.1 rip no_flood;
+        apart = apart;
+      };
+    }
+
+as_many : (h : Heading) (rs : List RouterDef) → length rs ≡ length h.routers → AreRouters [] rs → IsHeading h → IsHeading (record { period = h.period; groups = h.groups; seed = h.seed; routers = rs; links = h.links })
+as_many h rs same are is =
+    record {
+      period = is.period;
+      groups = is.groups;
+      seed = is.seed;
+      some = subst (λ (n : ℕ). 1 ≤ n) (sym same) is.some;
+      few = subst (λ (n : ℕ). n ≤ 64) (sym same) is.few;
+      routers = are;
+      few_links = is.few_links;
+      links = subst (λ (n : ℕ). AreLinks n [] h.links) (sym same) is.links;
+    }
+
+prefix_sound : (s : Standing) (name : List ℕ) (net : Net) (cost : Number) → IsRecording (case_of s) × (s.feed ≡ []) → first_of (table s (Prefix name net cost)) ≡ None → Sound place.Prefix (case_of (after s (Prefix name net cost)))
+prefix_sound s name net cost h free =
+    let i = number_at s name in
+    let p = prefix_at net cost in
+    let new = new_prefix s name net cost free in
+    let are = routers_with_prefix [] s.routers i p new.inside h.0.header.routers new.is new.few in
+    (record { header = as_many (case_of s).header (with_prefix s.routers i p) (length_with_prefix s.routers i p) are h.0.header; feed = no_feed _ s.feed h.1 }, h.1)
 
 -- ---- an external
 
@@ -318,7 +359,7 @@ after_sound s (Seed n) m w free h =
     (record { routers = b.0.routers; links = b.0.links; feed = b.0.feed }, b.1, b.2, under (2 ^ 64) n (held _ range.0))
 after_sound s (Router name k) m w free h = router_sound s name k (before_router s.place (case_of s) m h) w free
 after_sound s (Link a b delay cost) m w free h = link_sound s a b delay cost (before_link s.place (case_of s) m h) free
-after_sound s (Prefix name net cost) m w free h = absurd (no_prefix s name net cost (before_prefix s.place (case_of s) m h).header.routers free)
+after_sound s (Prefix name net cost) m w free h = prefix_sound s name net cost (before_prefix s.place (case_of s) m h) free
 after_sound s Feed m w free h = before_feed s.place (case_of s) m h
 after_sound s (External group name a) m w free h = external_sound s group name a (before_external s.place (case_of s) m h) w free
 after_sound s End m w free h = before_end s.place (case_of s) m h

@@ -5,12 +5,13 @@ use Rattle.std.specs.Cmp.Lexicographic.{pointwise, bytes_decides}
 use Rattle.std.proofs.lemmas.List.{take_at, drop_at, length-append}
 use Rattle.dn_model.specs.declared.router.Kind.{Kind}
 use Rattle.dn_model.specs.declared.router.Kind.TheVariants as kind
+use Rattle.dn_model.specs.Kinds.{is_built}
 use Rattle.dn_text.specs.declared.decimals.Number.{Number}
 use Rattle.dn_text.specs.declared.decimals.Number.TheVariants.{Is, Beyond}
 use Rattle.dn_text.specs.Decimals.{numeral_of}
 use Rattle.dn_text.specs.Lines.{parts}
 use Rattle.dn_case.specs.declared.shape.Net.{Net}
-use Rattle.dn_case.specs.Shapes.{Cmd, Down, Up, Line, Version, Period, Groups, Seed, Router, Link, Prefix, Feed, External, End, ◌>>=◌, kind_of, address_of, net_of_parts, net_of, ask_of, one_field, two_fields, three_fields, four_fields, five_fields, line_of_fields, before_newline, line_of}
+use Rattle.dn_case.specs.Shapes.{Cmd, Down, Up, Line, Version, Period, Groups, Seed, Router, Link, Prefix, Feed, External, End, ◌>>=◌, kind_of_word, kind_of, address_of, net_of_parts, net_of, ask_of, one_field, two_fields, three_fields, four_fields, five_fields, line_of_fields, before_newline, line_of}
 use Rattle.dn_case.specs.Spelling.{digits, IsSmall, kind_word, address_text, net_text, fields_of, spelled, AreSmall, IsSpellable}
 use Rattle.dn_case.proofs.Fields.{free, free-append, part_then, part_last, decimal_free, name_free, hex_free}
 use Rattle.dn_text.proofs.DecimalLaws.{decimal_again}
@@ -40,11 +41,14 @@ pub number_free : (s : ℕ) (x : Number) → s < 48 → IsSmall x → free s (di
 number_free s (Is n) low small = decimal_free s n low small
 number_free s Beyond low small = absurd small
 
-kind_again : (k : Kind) → k ≡ kind.Flood → kind_of (kind_word k) ≡ Some k
+word_again : (k : Kind) → kind_of_word (kind_word k) ≡ Some k
+word_again kind.Flood = refl
+word_again kind.Ospf = refl
+word_again kind.Rip = refl
+
+kind_again : (k : Kind) → is_built k ≡ true → kind_of (kind_word k) ≡ Some k
 unfolding kind_of
-kind_again kind.Flood h = refl
-kind_again kind.Ospf h = absurd cc
-kind_again kind.Rip h = absurd cc
+kind_again k h = rw (word_again k, h) refl
 
 kind_free : (k : Kind) → free 32 (kind_word k) ≡ true
 kind_free kind.Flood = refl

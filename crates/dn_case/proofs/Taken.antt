@@ -1,9 +1,9 @@
 -- What a line is that was read, and what it says where no cause holds for it.
 use Rattle.std.proofs.Common.{◌≡◌, ◌⊎◌, ℕ, ◌≤◌, ◌<◌, Bool, true, false, cond, not, ◌&&◌, ◌||◌, nat_le, nat_lt, List, [], ◌∷◌, Option, Some, None, is_some, unwrap_or, Ok, refl, subst, inl, inr, rules, tests, codes}
-use Rattle.std.specs.Option.{option_map}
+use Rattle.std.specs.Option.{option_map, option_and_then}
 use Rattle.dn_model.specs.declared.router.Kind.{Kind}
-use Rattle.dn_model.specs.declared.router.Kind.TheVariants as kind
 use Rattle.dn_model.specs.Names.{is_name}
+use Rattle.dn_model.specs.Kinds.{is_built}
 use Rattle.dn_text.specs.declared.decimals.Number.{Number}
 use Rattle.dn_text.specs.declared.decimals.Number.TheVariants.{Is, Beyond}
 use Rattle.dn_text.specs.Decimals.{numeral_of}
@@ -11,7 +11,7 @@ use Rattle.dn_text.specs.Hexadecimals.{is_hex}
 use Rattle.dn_text.specs.Lines.{parts}
 use Rattle.dn_case.specs.declared.standing.Standing.{Standing}
 use Rattle.dn_case.specs.declared.cause.Cause.{Cause}
-use Rattle.dn_case.specs.Shapes.{Ask, Cmd, Down, Up, Line, Version, Period, Groups, Seed, Router, Link, Prefix, Feed, External, End, ◌>>=◌, is_word, name_of, kind_of, net_of, one_field, two_fields, three_fields, four_fields, five_fields, group_of, ask_of, line_of_fields, before_newline, line_of}
+use Rattle.dn_case.specs.Shapes.{Ask, Cmd, Down, Up, Line, Version, Period, Groups, Seed, Router, Link, Prefix, Feed, External, End, ◌>>=◌, is_word, name_of, kind_of_word, kind_of, net_of, one_field, two_fields, three_fields, four_fields, five_fields, group_of, ask_of, line_of_fields, before_newline, line_of}
 use Rattle.dn_case.specs.Standings.{place_of, may_follow, between, below, value, first_of, table, after, verdict, taken, judged, read_line}
 
 -- ---- what a line that is read is
@@ -42,7 +42,7 @@ is_taken s text t e =
 
 -- the name of a router's line is a name, its kind one that is built; a command is hexadecimal
 abbrev pub IsWell : Line → Type 0
-IsWell (Router name k) = (is_name name ≡ true) × (k ≡ kind.Flood)
+IsWell (Router name k) = (is_name name ≡ true) × (is_built k ≡ true)
 IsWell (External group name (Cmd hex)) = is_hex hex ≡ true
 IsWell _ = Unit {0}
 
@@ -96,13 +96,20 @@ named text name e =
       | false ↦ λ _ e. absurd cc
     ] refl e
 
-built : (text : List ℕ) (k : Kind) → kind_of text ≡ Some k → k ≡ kind.Flood
+built_kind : (j k : Kind) → cond (is_built j) (Some j) None ≡ Some k → is_built k ≡ true
+built_kind j k e =
+    elim (is_built j) as (λ b. is_built j ≡ b → cond b (Some j) None ≡ Some k → is_built k ≡ true) [
+      | true ↦ λ is e. (let same : j ≡ k = cc in subst (λ (x : Kind). is_built x ≡ true) same is)
+      | false ↦ λ _ e. absurd cc
+    ] refl e
+
+built_word : (o : Option Kind) (k : Kind) → option_and_then (λ kind. cond (is_built kind) (Some kind) None) o ≡ Some k → is_built k ≡ true
+built_word None k e = absurd cc
+built_word (Some j) k e = built_kind j k e
+
+built : (text : List ℕ) (k : Kind) → kind_of text ≡ Some k → is_built k ≡ true
 unfolding kind_of
-built text k e =
-    elim (is_word text (codes "flood")) as (λ b. cond b (Some kind.Flood) None ≡ Some k → k ≡ kind.Flood) [
-      | true ↦ λ e. cc
-      | false ↦ λ e. absurd cc
-    ] e
+built text k e = built_word (kind_of_word text) k e
 
 well_three : (word name kind : List ℕ) (l : Line) → three_fields word name kind ≡ Some l → IsWell l
 unfolding three_fields

@@ -1,6 +1,5 @@
--- Ask the lines so far say, and the causes that hold for a further line.
+-- What the lines so far say, and the causes that hold for a further line.
 use Rattle.std.specs.Prelude.{ℕ, zero, suc, ◌+◌, ◌-◌, ◌*◌, ◌%◌, ◌^◌, List, [], ◌∷◌, ◌++◌, length, Bool, true, false, ◌&&◌, ◌||◌, not, ◌==◌, nat_eq, nat_le, nat_lt, if◌then◌else◌, Option, Some, None, is_some, unwrap_or, slice_get, Result, Ok, Err}
-use Rattle.std.specs.List.{list_any}
 use Rattle.std.specs.Option.{option_map_or}
 use Rattle.std.specs.Cmp.Lexicographic.{pointwise}
 use Rattle.dn_guest.specs.declared.input.Input.{Input}
@@ -10,6 +9,7 @@ use Rattle.dn_model.specs.declared.router.Kind.TheVariants as kind
 use Rattle.dn_model.specs.declared.router.RouterDef.{RouterDef}
 use Rattle.dn_model.specs.declared.router.Prefix.{Prefix}
 use Rattle.dn_model.specs.declared.feed.External.{External}
+use Rattle.dn_model.specs.Kinds.{has_prefix}
 use Rattle.dn_model.specs.Routers.{number_of}
 use Rattle.dn_model.specs.Links.{ports_of}
 use Rattle.dn_text.specs.declared.decimals.Number.{Number}
@@ -98,8 +98,8 @@ is_flood kind.Ospf = false
 is_flood kind.Rip = false
 
 -- the prefix stood before at this router
-abbrev pub has_prefix : Net → List Prefix → Bool
-has_prefix net prefixes = list_any (λ p. p.address == address net && p.len == value net.len) prefixes
+abbrev pub has_net : Net → List Prefix → Bool
+has_net net prefixes = has_prefix (address net) (value net.len) prefixes
 
 -- the address has bits past its length
 unfoldable pub has_host_bits : Net → Bool
@@ -152,7 +152,7 @@ is_same s _ = false
 -- a router's name, or a prefix at one router, stood before
 abbrev pub is_twice : Standing → Line → Bool
 is_twice s (Router name kind) = is_known s name
-is_twice s (PrefixLine name net cost) = router_is (λ r. has_prefix net r.prefixes) s name
+is_twice s (PrefixLine name net cost) = router_is (λ r. has_net net r.prefixes) s name
 is_twice s _ = false
 
 -- a prefix is at a flooding router
@@ -247,7 +247,7 @@ read_line s text = judged s (line_of text)
 -- the causes of a prefix that depend on its router, where its numbers fit
 abbrev pub cause_at : RouterDef → Net → Number → Option Cause
 cause_at r net cost =
-    first_of ((is_rip r.kind && not (between 1 15 cost), cause.Range) ∷ (has_prefix net r.prefixes, cause.Twice) ∷ (is_flood r.kind, cause.Kind) ∷ (has_host_bits net, cause.Host) ∷ (nat_le 32 (length r.prefixes), cause.Many) ∷ [])
+    first_of ((is_rip r.kind && not (between 1 15 cost), cause.Range) ∷ (has_net net r.prefixes, cause.Twice) ∷ (is_flood r.kind, cause.Kind) ∷ (has_host_bits net, cause.Host) ∷ (nat_le 32 (length r.prefixes), cause.Many) ∷ [])
 
 -- before the first line
 abbrev pub start : Standing

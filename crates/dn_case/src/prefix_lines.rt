@@ -2,7 +2,7 @@
 
 ghost use Rattle.std.specs.Prelude.{◌≡◌, ◌*◌, ◌+◌, ◌^◌, IsTrue};
 ghost use Rattle.dn_case.specs.Shapes.{Prefix as PrefixLine};
-ghost use Rattle.dn_case.specs.Standings.{cause_at, address, net_fits, is_rip, is_flood, has_prefix, has_host_bits, taken};
+ghost use Rattle.dn_case.specs.Standings.{cause_at, address, net_fits, is_rip, is_flood, has_net, has_host_bits, taken};
 ghost use Rattle.dn_case.specs.Takings.{Reads, IsFew};
 
 use crate::cause::{Cause, LineError};
@@ -76,9 +76,9 @@ fn is_flood(kind: Kind) -> bool
     }
 }
 
-fn has_prefix(net: Net, prefixes: &[Prefix]) -> bool
+fn has_net(net: Net, prefixes: &[Prefix]) -> bool
     requires { IsTrue (net_fits net) }
-    ensures { result ≡ has_prefix net prefixes.now }
+    ensures { result ≡ has_net net prefixes.now }
 {
     let whole = address(net);
     let len = value(net.len);
@@ -103,7 +103,7 @@ fn cause_at(router: &RouterDef, net: Net, cost: Number) -> Option<Cause>
 {
     if is_rip(router.kind) && !between(1, 15, cost) {
         Some(Cause::Range)
-    } else if has_prefix(net, router.prefixes.as_slice()) {
+    } else if has_net(net, router.prefixes.as_slice()) {
         Some(Cause::Twice)
     } else if is_flood(router.kind) {
         Some(Cause::Kind)

@@ -3,12 +3,12 @@ use Rattle.std.specs.Prelude.{◌≡◌, ◌≢◌, ℕ, ◌<◌, ◌≤◌, ◌
 use Rattle.std.specs.List.{AllByRecursion}
 use Rattle.dn_guest.specs.declared.input.Input.{Input}
 use Rattle.dn_guest.specs.declared.input.Input.TheVariants as input
-use Rattle.dn_model.specs.declared.router.Kind.TheVariants as kind
 use Rattle.dn_model.specs.declared.router.RouterDef.{RouterDef}
 use Rattle.dn_model.specs.declared.link.Link.{Link}
 use Rattle.dn_model.specs.declared.feed.External.{External}
 use Rattle.dn_model.specs.declared.timing.Timing.{Timing}
 use Rattle.dn_model.specs.Names.{is_name}
+use Rattle.dn_model.specs.Kinds.{is_built, ArePrefixes}
 use Rattle.dn_model.specs.Routers.{number_of}
 use Rattle.dn_model.specs.Links.{ports_of}
 
@@ -36,9 +36,9 @@ pub record IsRouter (before : List RouterDef) (r : RouterDef) : Type 0 where
   pub named : IsTrue (is_name r.name)
   -- no router before it has its name
   pub apart : number_of before r.name ≡ None
-  -- the flooding guest is the one that is built
-  pub kind : r.kind ≡ kind.Flood
-  pub prefixes : r.prefixes ≡ []
+  pub kind : IsTrue (is_built r.kind)
+  pub few_prefixes : length r.prefixes ≤ 32
+  pub prefixes : ArePrefixes r.kind [] r.prefixes
 
 abbrev pub AreRouters : List RouterDef → List RouterDef → Type 0
 AreRouters before [] = Unit {0}

@@ -1,4 +1,5 @@
 pub mod Names
+pub mod Kinds
 pub mod Routers
 pub mod Links
 pub mod Cases

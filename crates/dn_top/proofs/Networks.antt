@@ -1,9 +1,13 @@
--- The network of flooding guests.
-use Rattle.std.proofs.Common.{◌≡◌, ℕ, ◌+◌, ◌<◌, ◌≤◌, List, drop, [], length, replicate, Some, refl, ap, ◌∙◌, arith}
+-- The network of a case's guests, and what is written of its run.
+use Rattle.std.proofs.Common.{◌≡◌, ℕ, ◌+◌, ◌<◌, ◌≤◌, List, drop, length, map, Some, refl, ap, ◌∙◌, arith}
 use Rattle.std.specs.Prelude.{slice_get}
-use Rattle.std.proofs.lemmas.List.{length-drop, length-replicate, get_or-replicate}
+use Rattle.std.specs.List.{range_with_len}
+use Rattle.std.proofs.lemmas.List.{length-drop}
+use Rattle.std.proofs.lemmas.List.FromFn.{length-map-range_with_len, get_or-map-range_with_len}
 use Rattle.std.proofs.lemmas.Option.{slice_get-get_or}
-use Rattle.dn_guest.specs.Flood.{Bodies, flood}
+use Rattle.guest_any.specs.declared.any.AnyGuest.{AnyGuest}
+use Rattle.guest_any.specs.Any.{any}
+use Rattle.guest_any.specs.Openings.{opening_guest}
 use Rattle.dn_model.specs.Cases.{Heading}
 use Rattle.dn_model.specs.Network.{routers}
 use Rattle.std.proofs.Common.{Option}
@@ -17,22 +21,25 @@ use Rattle.dn_trace.specs.Differing.{DiffersAt}
 use Rattle.dn_trace.specs.Streaming.{IsRunOf, EndsAs}
 use Rattle.dn_top.specs.Promises.{IsOtherTrace, network_of, is_cut_case, is_cut_ending, trace_of, written}
 
-fresh_at : (n r : ℕ) → r < n → slice_get (replicate {A = Bodies} n []) r ≡ Some []
-fresh_at n r l =
-    slice_get-get_or (replicate {A = Bodies} n []) r [] (let long = length-replicate {A = Bodies} n [] in omega (arith, long))
-    ∙ ap (λ (b : Bodies). Some b) (get_or-replicate {A = Bodies} n r [] [] l)
+abbrev openings : Heading → List AnyGuest
+openings h = map (λ r. opening_guest h r) (range_with_len 0 (length h.routers))
 
--- guests that have seen nothing, one for each router
-pub flooding_run : (h : Heading) (guests : List Bodies) → guests ≡ replicate (length h.routers) [] → IsRunOf (network_of h) flood h guests
+pub one_each : (h : Heading) (guests : List AnyGuest) → guests ≡ openings h → length guests ≡ length h.routers
+one_each h guests made = rw made (length-map-range_with_len (λ r. opening_guest h r) 0 (length h.routers))
+
+opened_at : (h : Heading) (r : ℕ) → r < length h.routers → slice_get (openings h) r ≡ Some (opening_guest h r)
+opened_at h r l =
+    slice_get-get_or (openings h) r (opening_guest h r) (let long = one_each h (openings h) refl in omega (arith, long, l))
+    ∙ ap (λ (g : AnyGuest). Some g) (get_or-map-range_with_len (λ r. opening_guest h r) 0 (length h.routers) r r (opening_guest h r) l refl)
+
+-- the guests before the first event, one for each router
+pub guests_run : (h : Heading) (guests : List AnyGuest) → guests ≡ openings h → IsRunOf (network_of h) any h guests
 unfolding routers
-flooding_run h guests fresh = record {
+guests_run h guests made = record {
   of_header = refl;
   of_guest = refl;
-  openings = λ r l. rw fresh (fresh_at (length h.routers) r l);
+  openings = λ r l. rw made (opened_at h r l);
 }
-
-pub one_each : (h : Heading) (guests : List Bodies) → guests ≡ replicate (length h.routers) [] → length guests ≡ length h.routers
-one_each h guests fresh = rw fresh (length-replicate (length h.routers) [])
 
 -- how the trace ended tells whether the run is cut
 pub ending_tells : (c : Recording) (e : Ending) → EndsAs (network_of c.header) c.feed e → is_cut_case c ≡ is_cut_ending e

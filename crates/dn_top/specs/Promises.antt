@@ -1,6 +1,5 @@
 -- What the commands write of an input, and which statuses they answer.
 use Rattle.std.specs.Prelude.{◌≡◌, ◌⊎◌, ℕ, ◌+◌, ◌≤◌, ◌<◌, Bool, true, false, List, [], ◌++◌, length, drop, Option}
-use Rattle.dn_guest.specs.Flood.{Bodies, flood}
 use Rattle.dn_io.specs.Streams.{behind, PutsFront}
 use Rattle.dn_model.specs.Cases.{Heading, Recording}
 use Rattle.dn_model.specs.Network.{Network}
@@ -9,6 +8,9 @@ use Rattle.dn_text.specs.Lines.{lines}
 use Rattle.dn_case.specs.declared.cause.CaseFault.{CaseFault}
 use Rattle.dn_case.specs.Spelling.{case_text}
 use Rattle.dn_case.specs.Reading.{IsCaseFront, IsFirstBad, HasNoCase}
+use Rattle.guest_any.specs.declared.any.AnyGuest.{AnyGuest}
+use Rattle.guest_any.specs.Any.{any}
+use Rattle.guest_any.specs.Openings.{opening_guest}
 use Rattle.dn_trace.specs.Trace.{trace_text}
 use Rattle.dn_trace.specs.Differing.{DiffersAt}
 use Rattle.dn_trace.specs.declared.stream.Ending.{Ending}
@@ -20,9 +22,9 @@ use Rattle.dn_top.specs.declared.words.Command.TheVariants as command
 
 -- ---- what is written of a case
 
--- the network of a header: each router runs the guest of its kind, which is the flooding guest
-abbrev pub network_of : Heading → Network Bodies
-network_of h = record { header = h; guests = flood; opening = λ r. [] }
+-- the network of a header: each router runs the guest of its kind, which begins with the router's settings
+abbrev pub network_of : Heading → Network AnyGuest
+network_of h = record { header = h; guests = any; opening = λ r. opening_guest h r }
 
 -- the lockstep run of a case has more rows than a trace shows
 abbrev pub is_cut_case : Recording → Bool

@@ -1,18 +1,21 @@
 //! Writing a case and the trace of its lockstep run.
 
-ghost use Rattle.std.specs.Prelude.{◌≡◌, ◌≤◌, true, false, [], replicate, length, IfOk, OnOk, IsErrOf};
+ghost use Rattle.std.specs.Prelude.{◌≡◌, ◌≤◌, true, false, map, length, IfOk, OnOk, IsErrOf};
+ghost use Rattle.std.specs.List.{range_with_len};
 ghost use Rattle.dn_io.specs.Streams.{Rose, behind, PutsFront};
 ghost use Rattle.dn_case.specs.Spelling.{case_text};
-ghost use Rattle.dn_guest.specs.Flood.{flood};
+ghost use Rattle.guest_any.specs.Any.{any};
+ghost use Rattle.guest_any.specs.Openings.{opening_guest};
 ghost use Rattle.dn_trace.specs.Streaming.{IsRunOf};
 ghost use Rattle.dn_top.specs.Promises.{network_of, written, trace_of, is_cut_case, is_cut_ending, is_of_writing};
 
 use crate::status::Status;
 use dn_case::write_case;
-use dn_guest::{Bytes, Flood, NoMemory};
+use dn_guest::{Bytes, NoMemory};
 use dn_io::{Sink, put_all};
-use dn_model::Case;
+use dn_model::{Case, Header};
 use dn_trace::{Ending, WriteError, write_trace};
+use guest_any::{AnyGuest, make};
 use std::alloc::Global;
 
 /// Writes the recording, and then the trace.
@@ -43,7 +46,7 @@ fn write_both<K: Sink>(alloc: Global, case: &Case, sink: &mut K) -> Result<Endin
     ensures later { K.faults sink.old ≤ K.faults sink.new }
 {
     write_recording(alloc, case, sink)?;
-    write_flooding_trace(alloc, case, sink)
+    write_run_trace(alloc, case, sink)
 }
 
 /// The recording: the one spelling of the case.
@@ -63,8 +66,8 @@ fn write_recording<K: Sink>(alloc: Global, case: &Case, sink: &mut K) -> Result<
     }
 }
 
-/// The trace of the lockstep run with a flooding guest at each router.
-fn write_flooding_trace<K: Sink>(
+/// The trace of the lockstep run, with the guest of its kind at each router.
+fn write_run_trace<K: Sink>(
     alloc: Global,
     case: &Case,
     sink: &mut K,
@@ -82,28 +85,22 @@ fn write_flooding_trace<K: Sink>(
 }
 
 /// The guest of each router of the case, before the first event.
-pub(crate) fn guests_of(alloc: Global, case: &Case) -> Result<Vec<Flood>, NoMemory>
+pub(crate) fn guests_of(alloc: Global, case: &Case) -> Result<Vec<AnyGuest>, NoMemory>
     ensures one_each { IfOk result (λ guests. length guests.items ≡ length case.now.header.routers) }
-    ensures run { IfOk result (λ guests. IsRunOf (network_of case.now.header) flood case.now.header guests.items) }
+    ensures run { IfOk result (λ guests. IsRunOf (network_of case.now.header) any case.now.header guests.items) }
 {
-    let guests = flooding_guests(alloc, router_count(case))?;
+    let guests = made_guests(alloc, &case.header)?;
     Ok(guests)
 }
 
-/// How many routers the case has.
-fn router_count(case: &Case) -> usize
-    ensures { result ≡ length case.now.header.routers }
+/// The guests of the routers, in order.
+fn made_guests(alloc: Global, header: &Header) -> Result<Vec<AnyGuest>, NoMemory>
+    ensures { IfOk result (λ guests. guests.items ≡ map (λ r. opening_guest header.now r) (range_with_len 0 (length header.now.routers))) }
 {
-    case.header.routers.as_slice().len()
-}
-
-/// So many flooding guests that have seen nothing.
-fn flooding_guests(alloc: Global, count: usize) -> Result<Vec<Flood>, NoMemory>
-    ensures { IfOk result (λ guests. guests.items ≡ replicate count []) }
-{
+    let count = header.routers.as_slice().len() as u16;
     let mut guests = Vec::new(alloc);
-    'guests: while guests.len() < count {
-        guests.push(Flood::new(alloc))?;
+    for router in 0..count {
+        guests.push(make(alloc, header, router)?)?;
     }
     Ok(guests)
 }

@@ -16,6 +16,10 @@ const FEED: &str =
 const FED: &str =
     "defined 1\nperiod 10\ngroups 3\nseed 7\nrouter a flood\nrouter b flood\nlink a b 5 9\nfeed\n@2 a cmd 41\n";
 
+/// A flooding router and a RIP router, which has a prefix.
+const PREFIXED: &str =
+    "defined 1\nperiod 10\ngroups 3\nseed 7\nrouter a flood\nrouter r rip\nlink a r 5 9\nprefix r 10.0.0.0/8 1\n";
+
 #[test]
 fn first_lines(rt: HostRuntime) -> Result<(), Fail> {
     let table = "defined 2|1 version
@@ -65,6 +69,8 @@ fn routers(rt: HostRuntime) -> Result<(), Fail> {
 link a b 1 1|5 syntax
 prefix a 10.0.0.0/8 1|5 syntax
 router a bgp|5 syntax
+router a ospf|5 syntax
+router a Rip|5 syntax
 router 1a flood|5 syntax
 router A flood|5 syntax
 router abcdefghijklmnopq flood|5 syntax
@@ -120,6 +126,35 @@ prefix a 10.0.0.0/8/8 1|8 syntax
 prefix a 10.0.0.00/8 1|8 syntax
 ";
     assert_eq!(rt; first_wrong(rt.alloc(), HEAD, "\n", table)?.as_str(), "");
+    Ok(())
+}
+
+#[test]
+fn prefixes_of_a_rip_router(rt: HostRuntime) -> Result<(), Fail> {
+    let table = "prefix r 11.0.0.0/8 0|9 range
+prefix r 11.0.0.0/8 16|9 range
+prefix r 10.0.0.0/8 16|9 range
+prefix r 11.0.0.1/8 16|9 range
+prefix c 10.0.0.0/8 0|9 range
+prefix c 10.0.0.0/8 65536|9 range
+prefix c 10.0.0.0/8 16|9 name
+prefix r 10.0.0.0/8 1|9 twice
+prefix r 10.0.0.0/8 15|9 twice
+prefix r 10.0.0.0/9 15|10 ended
+prefix a 10.0.0.0/8 1|9 kind
+prefix a 10.0.0.1/8 16|9 kind
+prefix r 10.0.0.1/8 1|9 host
+prefix r 128.0.0.0/0 1|9 host
+prefix r 1.2.3.4/31 1|10 ended
+prefix r 1.2.3.5/31 1|9 host
+prefix r 1.2.3.5/32 1|10 ended
+link a r 1 1|9 syntax
+router b rip|9 syntax
+";
+    assert_eq!(rt;
+        first_wrong(rt.alloc(), PREFIXED, "\n", table)?.as_str(),
+        ""
+    );
     Ok(())
 }
 

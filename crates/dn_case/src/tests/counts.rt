@@ -1,4 +1,4 @@
-//! The greatest numbers of routers, links and ports, and one more.
+//! The greatest numbers of routers, links, ports and prefixes, and one more.
 
 use super::first_wrong;
 use crate::read_case;
@@ -76,5 +76,37 @@ link r0 r2 1 0|24 range
         first_wrong(alloc, text.as_str(), "\n", table)?.as_str(),
         ""
     );
+    Ok(())
+}
+
+#[test]
+fn a_33rd_prefix_is_too_many(rt: HostRuntime) -> Result<(), Fail> {
+    let alloc = rt.alloc();
+    let mut text = String::from_str(
+        alloc,
+        "defined 1\nperiod 1\ngroups 1\nseed 0\nrouter r rip\nrouter s rip\n",
+    )?;
+    for i in 0..32u64 {
+        text.push_str(format!(in alloc; "prefix r {i}.0.0.0/8 1\n")?.as_str())?;
+    }
+    let table = "prefix r 32.0.0.0/8 1|39 many
+prefix r 31.0.0.0/8 1|39 twice
+prefix r 32.0.0.1/8 1|39 host
+prefix r 32.0.0.0/8 16|39 range
+prefix s 32.0.0.0/8 1|40 ended
+";
+    assert_eq!(rt;
+        first_wrong(alloc, text.as_str(), "\n", table)?.as_str(),
+        ""
+    );
+    text.push_str("feed\nend\n")?;
+    let (case, _) = read_case(alloc, text.as_bytes())
+        .ok()
+        .ok_or("32 prefixes are a case")?;
+    let routers = case.header.routers.as_slice();
+    if let Some(router) = routers.first() {
+        assert_eq!(rt; router.prefixes.as_slice().len(), 32);
+    }
+    assert_eq!(rt; routers.len(), 2);
     Ok(())
 }

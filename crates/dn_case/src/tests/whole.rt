@@ -17,6 +17,14 @@ const PAIR: &str =
 const GREATEST: &str =
     "defined 1\nperiod 1000000\ngroups 4096\nseed 18446744073709551615\nrouter abcdefghijklmn09 flood\nrouter b flood\nlink b abcdefghijklmn09 1000000 65535\nlink abcdefghijklmn09 b 1 1\nfeed\n@0 b up 1\n@4095 abcdefghijklmn09 cmd 00ff\nend\n";
 
+/// Prefix lines of three routers in another order than that of the routers.
+const MIXED: &str =
+    "defined 1\nperiod 10\ngroups 3\nseed 7\nrouter a rip\nrouter f flood\nrouter b rip\nlink a b 5 9\nprefix b 10.0.1.0/24 2\nprefix a 192.168.0.255/32 1\nprefix b 10.0.0.0/24 3\nprefix a 0.0.0.0/0 15\nfeed\nend\n";
+
+/// The same case, its prefix lines in the order of the routers, and those of one router in their order.
+const ORDERED: &str =
+    "defined 1\nperiod 10\ngroups 3\nseed 7\nrouter a rip\nrouter f flood\nrouter b rip\nlink a b 5 9\nprefix a 192.168.0.255/32 1\nprefix a 0.0.0.0/0 15\nprefix b 10.0.1.0/24 2\nprefix b 10.0.0.0/24 3\nfeed\nend\n";
+
 /// The text of the case that is read of a text.
 fn again(alloc: Global, text: &str) -> Result<Bytes, Fail> {
     let (case, _) = read_case(alloc, text.as_bytes())
@@ -29,8 +37,29 @@ fn again(alloc: Global, text: &str) -> Result<Bytes, Fail> {
 
 #[test]
 fn what_is_read_is_written(rt: HostRuntime) -> Result<(), Fail> {
-    for text in [PAIR, GREATEST] {
+    for text in [PAIR, GREATEST, ORDERED] {
         assert_eq!(rt; again(rt.alloc(), text)?.as_slice(), text.as_bytes());
+    }
+    Ok(())
+}
+
+#[test]
+fn prefix_lines_are_written_in_the_order_of_the_routers(rt: HostRuntime) -> Result<(), Fail> {
+    assert_eq!(rt; again(rt.alloc(), MIXED)?.as_slice(), ORDERED.as_bytes());
+    Ok(())
+}
+
+#[test]
+fn prefixes_keep_their_numbers(rt: HostRuntime) -> Result<(), Fail> {
+    let (case, _) = read_case(rt.alloc(), MIXED.as_bytes())
+        .ok()
+        .ok_or("it is a case")?;
+    if let Some(router) = case.header.routers.as_slice().first() {
+        let first = router.prefixes.as_slice().first().ok_or("a has prefixes")?;
+        assert_eq!(rt;
+            (first.address, first.len, first.cost),
+            (3_232_235_775, 32, 1)
+        );
     }
     Ok(())
 }

@@ -1,4 +1,4 @@
-use Rattle.dn_case.proofs.RoundTrip.{lines_again}
+use Rattle.dn_case.proofs.CaseAgain.{lines_again}
 use Rattle.dn_case.proofs.Fronts.{text_again}
 use Rattle.dn_case.proofs.laws.a_written_case_is_read.Goals as goal
 

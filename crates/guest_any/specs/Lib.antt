@@ -1,0 +1,3 @@
+pub mod Any
+pub mod ImageTells
+pub mod Openings

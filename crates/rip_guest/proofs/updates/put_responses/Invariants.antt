@@ -1,0 +1,7 @@
+use Rattle.std.proofs.Common.{◌≡◌, ◌++◌, map}
+use Rattle.std.specs.List.{range_with_len}
+use Rattle.rip_guest.specs.Updates.{message_on, part}
+use Rattle.rip_guest.proofs.updates.put_responses.Given as goal
+
+abbrev pub invariant-loop-k : goal.invariant-loop-k
+invariant-loop-k l = l.out ≡ l.fn.out ++ map (λ k. message_on l.port 2 (part l.entries k)) (range_with_len 0 l.k)

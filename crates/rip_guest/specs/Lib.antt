@@ -1,0 +1,10 @@
+pub mod State
+pub mod Updates
+pub mod Requests
+pub mod Responses
+pub mod Commands
+pub mod Step
+pub mod Image
+pub mod ImageTells
+pub mod Show
+pub mod Rip

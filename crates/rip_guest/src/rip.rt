@@ -1,0 +1,255 @@
+//! The guest, and its step by cases on the input.
+
+ghost use Rattle.std.specs.Prelude.{◌≡◌, ◌↔◌, ◌≤◌, ◌++◌, IsTrue, IfOk, OnOk, length, map, min, refl};
+ghost use Rattle.dn_guest.specs.KeepsFront.{KeepsFront};
+ghost use Rattle.rip_table.specs.Own.{with_own};
+ghost use Rattle.rip_wire.specs.Reading.{message_at};
+ghost use Rattle.rip_guest.specs.ImageTells.{same_by_image};
+ghost use Rattle.rip_guest.specs.Rip.{rip};
+ghost use Rattle.rip_guest.specs.State.{has_port, opening, opening_routes, with_routes};
+ghost use Rattle.rip_guest.specs.Step.{ended, handled, handled_outs, is_passed_over, outs_by, routes_by, tick_outs, tick_routes, triggered};
+
+use crate::commands::command;
+use crate::image::push_image;
+use crate::requests::answer;
+use crate::responses::hear;
+use crate::show::push_show;
+use crate::updates::{put_request, put_requests, put_updates};
+use crate::{Costs, PrefixList, RipSettings};
+use dn_guest::{Bytes, Guest, Input, Outbox};
+use rip_table::{INFINITY, Table};
+use rip_wire::{REQUEST, decode};
+use std::alloc::{AllocError, Global};
+use std::marker::Model;
+
+/// How many ticks lie between two regular updates (RFC 2453 section 3.8).
+const UPDATE_INTERVAL: u32 = 30;
+
+/// The last tick that is taken.
+const LAST_TICK: u32 = 65_535;
+
+/// A RIP router. Contracts see its number, the last tick, the cost of each port and its routes.
+#[derive(Drop)]
+pub struct Rip {
+    number: u16,
+    /// 0 before the first tick.
+    last_tick: u32,
+    costs: Vec<u8>,
+    table: Table,
+}
+
+impl Model for Rip {
+    ghost use Rattle.std.specs.Prelude.{◌≤◌, length};
+    ghost use Rattle.rip_guest.specs.State.{RipState, state_of};
+
+    ghost Value = { RipState };
+
+    ghost view = { λ r. state_of r.number r.last_tick r.costs.items r.table };
+
+    ghost invariant = { λ r. length r.costs.items ≤ 16 };
+}
+
+/// The costs of the ports, each at most 16.
+fn kept_costs(alloc: Global, costs: &Costs) -> Result<Vec<u8>, AllocError>
+    ensures { IfOk result (λ kept. kept.items ≡ map (min 16) costs.now) }
+{
+    let mut kept = Vec::new(alloc);
+    for cost in costs.as_slice() {
+        kept.push((*cost).min(16) as u8)?;
+    }
+    Ok(kept)
+}
+
+/// Sets an own network at tick 0.
+fn connect_at_start(table: &mut Table, prefix: (u32, u8, u16)) -> Result<(), AllocError>
+    ensures { OnOk result (table.new ≡ with_own table.old prefix.0 prefix.1 (min 16 prefix.2) 0) }
+{
+    let (address, len, metric) = prefix;
+    table.connect(address, len, metric.min(16) as u8, 0)
+}
+
+/// A table with the own networks at tick 0, none of them marked as changed.
+fn opening_table(alloc: Global, prefixes: &PrefixList) -> Result<Table, AllocError>
+    ensures { IfOk result (λ table. table ≡ opening_routes prefixes.now) }
+{
+    let mut table = Table::new(alloc);
+    for prefix in prefixes.as_slice() {
+        connect_at_start(&mut table, *prefix)?;
+    }
+    table.settle();
+    Ok(table)
+}
+
+impl Rip {
+    /// A router that begins with these settings, which have at most 16 ports.
+    pub fn new(alloc: Global, settings: &RipSettings) -> Result<Rip, AllocError>
+        requires { length settings.now.costs ≤ 16 }
+        ensures { IfOk result (λ made. made ≡ opening settings.now.number settings.now.costs settings.now.prefixes) }
+    {
+        Ok(Rip {
+            number: settings.number,
+            last_tick: 0,
+            costs: kept_costs(alloc, &settings.costs)?,
+            table: opening_table(alloc, &settings.prefixes)?,
+        })
+    }
+
+    /// How many ports the router has.
+    fn port_count(&self) -> u8
+        ensures count { result ≡ length self.now.costs }
+        ensures few { result ≤ 16 }
+    {
+        self.costs.len() as u8
+    }
+
+    /// Whether the router has this port.
+    fn has_port(&self, port: u8) -> bool
+        ensures { result ≡ has_port self.now port }
+    {
+        port < self.port_count()
+    }
+
+    /// A tick: the timers, a request for the whole table at tick 0, and the regular update.
+    fn tick(
+        &mut self,
+        alloc: Global,
+        ports: u16,
+        group: u32,
+        out: &mut Outbox,
+    ) -> Result<(), AllocError>
+        ensures state { OnOk result (self.new ≡ record self.old { last_tick = group; routes = tick_routes self.old group }) }
+        ensures outputs { OnOk result (out.new ≡ out.old ++ tick_outs ports self.old group) }
+    {
+        self.last_tick = group;
+        self.table.tick(group);
+        let count = self.port_count();
+        if group == 0 {
+            put_requests(alloc, ports, count, out)?;
+        }
+        if group % UPDATE_INTERVAL == u32::from(self.number) % UPDATE_INTERVAL {
+            put_updates(alloc, ports, count, &self.table, false, out)?;
+            self.table.settle();
+        }
+        Ok(())
+    }
+
+    /// A message on a port of the router. Bytes that are none do nothing.
+    fn message(
+        &mut self,
+        alloc: Global,
+        port: u8,
+        body: &[u8],
+        out: &mut Outbox,
+    ) -> Result<(), AllocError>
+        requires { IsTrue (has_port self.old port) }
+        ensures state { OnOk result (self.new ≡ with_routes self.old (routes_by self.old port (message_at body.now))) }
+        ensures outputs { OnOk result (out.new ≡ out.old ++ outs_by self.old port (message_at body.now)) }
+    {
+        let Some(message) = decode(alloc, body)? else {
+            return Ok(());
+        };
+        let entries = message.entries.as_slice();
+        if message.command == REQUEST {
+            return answer(alloc, &self.table, port, entries, out);
+        }
+        let cost = self.costs[usize::from(port)];
+        hear(&mut self.table, port, cost, self.last_tick, entries)
+    }
+
+    /// What an input does before the end of the step.
+    fn handle(
+        &mut self,
+        alloc: Global,
+        ports: u16,
+        input: &Input,
+        out: &mut Outbox,
+    ) -> Result<(), AllocError>
+        ensures state { OnOk result (self.new ≡ handled self.old input.now) }
+        ensures outputs { OnOk result (out.new ≡ out.old ++ handled_outs ports self.old input.now) }
+    {
+        match input {
+            Input::Tick(group) => self.tick(alloc, ports, *group, out)?,
+            Input::Cmd(body) => command(&mut self.table, self.last_tick, body.as_slice())?,
+            Input::Down(port) if self.has_port(*port) => self.table.lose_port(*port, self.last_tick),
+            Input::Up(port) if self.has_port(*port) => put_request(alloc, *port, out)?,
+            Input::Msg(port, body) if self.has_port(*port) => {
+                self.message(alloc, *port, body.as_slice(), out)?
+            }
+            _ => {}
+        }
+        Ok(())
+    }
+
+    /// The end of the step: a triggered update where some route changed.
+    fn end(&mut self, alloc: Global, ports: u16, out: &mut Outbox) -> Result<(), AllocError>
+        ensures state { OnOk result (self.new ≡ ended self.old) }
+        ensures outputs { OnOk result (out.new ≡ out.old ++ triggered ports self.old) }
+    {
+        if self.table.changed() {
+            let count = self.port_count();
+            put_updates(alloc, ports, count, &self.table, true, out)?;
+            self.table.settle();
+        }
+        Ok(())
+    }
+
+    /// Whether the input is a tick before the last one, or past 65,535.
+    fn is_passed_over(&self, input: &Input) -> bool
+        ensures { result ≡ is_passed_over self.now input.now }
+    {
+        match input {
+            Input::Tick(group) => *group < self.last_tick || LAST_TICK < *group,
+            _ => false,
+        }
+    }
+}
+
+impl Guest for Rip {
+    ghost meaning = { rip };
+
+    ghost sort_stays = { λ _ _ _. refl };
+
+    ghost image_tells = { λ one other _ same. same_by_image one other same };
+
+    fn step(
+        &mut self,
+        alloc: Global,
+        ports: u16,
+        input: &Input,
+        out: &mut Outbox,
+    ) -> Result<(), AllocError> {
+        if self.is_passed_over(input) {
+            return Ok(());
+        }
+        self.handle(alloc, ports, input, out)?;
+        self.end(alloc, ports, out)
+    }
+
+    fn fork(&self, alloc: Global) -> Result<Self, AllocError> {
+        Ok(Rip {
+            number: self.number,
+            last_tick: self.last_tick,
+            costs: self.costs.clone()?,
+            table: self.table.fork(alloc)?,
+        })
+    }
+
+    fn same(&self, other: &Self) -> bool {
+        self.number == other.number
+            && self.last_tick == other.last_tick
+            && self.costs == other.costs
+            && self.table.same(&other.table)
+    }
+
+    fn sort(&self) -> u8 {
+        2
+    }
+
+    fn image(&self, _alloc: Global, out: &mut Bytes) -> Result<(), AllocError> {
+        push_image(self.number, self.last_tick, &self.costs, &self.table, out)
+    }
+
+    fn show(&self, _alloc: Global, out: &mut Bytes) -> Result<(), AllocError> {
+        push_show(&self.table, out)
+    }
+}
