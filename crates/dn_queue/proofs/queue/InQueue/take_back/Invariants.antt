@@ -1,0 +1,8 @@
+use Rattle.std.proofs.Common.{◌≡◌, ◌++◌, take, drop, length}
+use Rattle.std.specs.Vec.Iter.{into_iter_items}
+use Rattle.dn_world.specs.World.{with_todo}
+use Rattle.dn_world.specs.Runs.{IsTidy}
+use Rattle.dn_queue.proofs.queue.InQueue.take_back.Given as goal
+
+abbrev pub invariant-loop-event : goal.invariant-loop-event
+invariant-loop-event l = record { come : l.self ≡ with_todo l.yielded l.fn.self; tidy : IsTidy l.fn.self }
