@@ -1,16 +1,15 @@
 -- What waits, after an event or an unsend has come.
-use Rattle.std.proofs.Common.{◌≡◌, ℕ, suc, ◌+◌, ◌<◌, true, false, List, [], ◌∷◌, ◌++◌, length, get_or, take, drop, refl, sym, ap, ◌∙◌, subst, arith}
-use Rattle.std.specs.List.{AllByRecursion}
+use Rattle.std.proofs.Common.{◌≡◌, true, false, List, [], ◌∷◌, ◌++◌, drop, sym, ap, ◌∙◌, arith}
 use Rattle.std.specs.List.Sorted.{IsSorted}
 use Rattle.dn_lists.specs.InOrder.{put_in_order}
 use Rattle.dn_lists.proofs.Lists.{all_weaker}
-use Rattle.dn_lists.proofs.Sorting.{count, count_append, rises_from_sorted, sorted_from_rises}
+use Rattle.dn_lists.proofs.Sorting.{count_append, rises_from_sorted, sorted_from_rises}
 use Rattle.dn_model.specs.declared.event.Event.{Event}
 use Rattle.dn_model.specs.Order.{event_cmp, event_total}
 use Rattle.dn_world.specs.World.{Part, no_part, is_same, stands, without, with_todo, with_void}
 use Rattle.dn_world.specs.Runs.{IsTidy}
 use Rattle.dn_world.proofs.Parts.{count_todo, todo_done}
-use Rattle.dn_world.proofs.Tidy.{todo_tidy, void_tidy, todo_cancels, todo_stays, void_cancels_one, void_stays}
+use Rattle.dn_world.proofs.Tidy.{todo_tidy, todo_cancels, todo_stays, void_cancels_one, void_stays}
 use Rattle.dn_world.proofs.Canonical.{tidy_same}
 use Rattle.dn_queue.proofs.Counts.{absent_parts}
 

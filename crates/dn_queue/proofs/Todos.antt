@@ -1,15 +1,15 @@
 -- The set and the further events.
-use Rattle.std.proofs.Common.{◌≡◌, ℕ, ◌+◌, ◌<◌, Bool, true, false, Bor, List, [], ◌∷◌, ◌++◌, drop, length, refl, sym, ap, ◌∙◌, subst, arith, map}
+use Rattle.std.proofs.Common.{◌≡◌, ◌+◌, ◌<◌, Bool, true, false, Bor, List, [], ◌∷◌, ◌++◌, drop, length, refl, sym, ap, ◌∙◌, subst, arith, map}
 use Rattle.std.specs.Prelude.{Option, Some, None, IsSome, IfSome, ◌↔◌, option_copied, slice_get}
 use Rattle.std.specs.FinMap.{IsAntisymmetric}
-use Rattle.std.specs.List.{AllByRecursion, list_any}
+use Rattle.std.specs.List.{AllByRecursion}
 use Rattle.std.specs.List.Sorted.{IsStrictlySortedBy, IsSorted, IsPermutation}
 use Rattle.std.specs.Set.{remove_key}
 use Rattle.std.specs.BTreeMap.{is_at}
 use Rattle.std.specs.BTreeSet.{insert_key}
 use Rattle.std.specs.Ordering.{is_gt, is_lt, ordering_reverse}
 use Rattle.std.specs.Cmp.{tied_itself}
-use Rattle.std.specs.declared.cmp.Ordering.TheVariants.{Less, Equal, Greater}
+use Rattle.std.specs.declared.cmp.Ordering.TheVariants.{Less}
 use Rattle.std.proofs.lemmas.Bool.{both_ways, false≢true}
 use Rattle.std.proofs.lemmas.Map.Keys.{sorted_head}
 use Rattle.dn_lists.specs.InOrder.{put_in_order}
@@ -18,7 +18,7 @@ use Rattle.dn_lists.proofs.Sorting.{one_if, count, count_append, count_permutati
 use Rattle.dn_model.specs.declared.event.Event.{Event}
 use Rattle.dn_model.specs.declared.key.Key.{Key}
 use Rattle.dn_model.specs.Order.{key_cmp, key_total, event_cmp, event_total, sorted}
-use Rattle.dn_model.proofs.EventOrder.{event_same, keys_rise}
+use Rattle.dn_model.proofs.EventOrder.{keys_rise}
 use Rattle.dn_model.proofs.Waves.{IsRising}
 use Rattle.dn_world.proofs.Uses.{key_same as key_one}
 use Rattle.dn_world.specs.World.{is_same, stands, without}

@@ -40,7 +40,10 @@ fn events_come_out_in_order(rt: HostRuntime) -> Result<(), Fail> {
     for sum in [30, 10, 20, 10] {
         queue.put(message(alloc, sum, 0, 0x41)?)?;
     }
-    assert_eq!(rt; moments(alloc, &queue)?.as_slice(), [10, 10, 20, 30].as_slice());
+    assert_eq!(rt;
+        moments(alloc, &queue)?.as_slice(),
+        [10, 10, 20, 30].as_slice()
+    );
     assert_eq!(rt; queue.least().map(|e| e.key.sum), Some(10));
     for sum in [10, 10, 20, 30] {
         assert_eq!(rt; queue.take_least().map(|e| e.key.sum), Some(sum));

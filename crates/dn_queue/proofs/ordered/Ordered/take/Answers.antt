@@ -1,7 +1,6 @@
-use Rattle.std.proofs.Common.{◌≡◌, true, false, sym, ap, ◌∙◌, subst}
-use Rattle.std.specs.Prelude.{Some, slice_get}
+use Rattle.std.proofs.Common.{◌≡◌, false, sym, ap, ◌∙◌, subst}
+use Rattle.std.specs.Prelude.{Some}
 use Rattle.std.specs.List.Sorted.{IsSorted}
-use Rattle.dn_model.specs.declared.event.Event.{Event}
 use Rattle.dn_model.specs.Order.{event_cmp}
 use Rattle.dn_world.specs.World.{stands, without}
 use Rattle.dn_world.proofs.Parts.{without_none}

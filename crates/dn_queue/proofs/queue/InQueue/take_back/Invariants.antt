@@ -1,5 +1,4 @@
-use Rattle.std.proofs.Common.{◌≡◌, ◌++◌, take, drop, length}
-use Rattle.std.specs.Vec.Iter.{into_iter_items}
+use Rattle.std.proofs.Common.{◌≡◌}
 use Rattle.dn_world.specs.World.{with_todo}
 use Rattle.dn_world.specs.Runs.{IsTidy}
 use Rattle.dn_queue.proofs.queue.InQueue.take_back.Given as goal

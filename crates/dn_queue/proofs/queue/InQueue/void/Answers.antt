@@ -1,4 +1,4 @@
-use Rattle.std.proofs.Common.{◌≡◌, true, false, sym, ap, ◌∙◌, subst}
+use Rattle.std.proofs.Common.{◌≡◌, false, sym, ap, ◌∙◌, subst}
 use Rattle.dn_world.specs.World.{with_void, stands}
 use Rattle.dn_world.specs.Runs.{IsTidy}
 use Rattle.dn_world.proofs.Parts.{without_none}

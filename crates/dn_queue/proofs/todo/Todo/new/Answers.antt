@@ -1,4 +1,4 @@
-use Rattle.std.proofs.Common.{[], ◌++◌, ap, ◌∙◌}
+use Rattle.std.proofs.Common.{◌++◌}
 use Rattle.dn_model.specs.Order.{sorted}
 use Rattle.dn_queue.proofs.todo.Todo.new.Goals as goal
 

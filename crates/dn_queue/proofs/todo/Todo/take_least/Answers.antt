@@ -1,9 +1,7 @@
-use Rattle.std.proofs.Common.{◌≡◌, ◌<◌, true, false, List, [], ◌∷◌, length, drop, refl, sym, ap, ◌∙◌, subst, arith}
-use Rattle.std.specs.Prelude.{Option, Some, None, slice_get, is_some}
-use Rattle.std.specs.List.Sorted.{IsStrictlySortedBy}
+use Rattle.std.proofs.Common.{◌≡◌, false, List, [], ◌∷◌, drop, sym, ap, ◌∙◌, subst}
+use Rattle.std.specs.Prelude.{Some, slice_get, is_some}
 use Rattle.dn_model.specs.declared.event.Event.{Event}
-use Rattle.dn_model.specs.Order.{event_cmp}
-use Rattle.dn_world.specs.World.{stands, without}
+use Rattle.dn_world.specs.World.{stands}
 use Rattle.dn_world.proofs.Parts.{without_none}
 use Rattle.dn_queue.specs.Todos.{all_todo, IsFronted}
 use Rattle.dn_queue.proofs.Todos.{fronted_again_less, fronted_first, first_is, least_is, least_again, least_first, nothing_first, popped}

@@ -1,0 +1,67 @@
+//! Each call once with ample memory, its answer compared.
+
+use crate::Shelf;
+use dn_guest::{Flood, NoMemory, Node};
+use std::alloc::Global;
+use std::test::Fail;
+
+/// A node that has sent so many messages.
+fn node(alloc: Global, sends: u64) -> Node<Flood> {
+    Node {
+        guest: Flood::new(alloc),
+        ports: 1,
+        sends,
+    }
+}
+
+/// The place of the base for this one, and what its node has sent.
+fn base(shelf: &Shelf<Flood>, place: u64) -> (u64, u64) {
+    let (at, node) = shelf.base_for(place);
+    (at, node.sends)
+}
+
+/// A shelf with nodes at places 0, 2, 3 and 7.
+fn four(alloc: Global) -> Result<Shelf<Flood>, NoMemory> {
+    let mut shelf = Shelf::new(alloc, node(alloc, 10))?;
+    shelf.keep(7, node(alloc, 17))?;
+    shelf.keep(3, node(alloc, 99))?;
+    shelf.keep(2, node(alloc, 12))?;
+    shelf.keep(3, node(alloc, 13))?;
+    Ok(shelf)
+}
+
+#[test]
+fn the_base_is_the_greatest_place_that_is_not_past(rt: HostRuntime) -> Result<(), Fail> {
+    let shelf = four(rt.alloc())?;
+    assert_eq!(rt; base(&shelf, 0), (0, 10));
+    assert_eq!(rt; base(&shelf, 1), (0, 10));
+    assert_eq!(rt; base(&shelf, 2), (2, 12));
+    assert_eq!(rt; base(&shelf, 3), (3, 13));
+    assert_eq!(rt; base(&shelf, 6), (3, 13));
+    assert_eq!(rt; base(&shelf, 7), (7, 17));
+    assert_eq!(rt; base(&shelf, 18_446_744_073_709_551_615), (7, 17));
+    Ok(())
+}
+
+#[test]
+fn a_cut_drops_what_is_past_the_place(rt: HostRuntime) -> Result<(), Fail> {
+    let mut shelf = four(rt.alloc())?;
+    shelf.cut(6);
+    assert_eq!(rt; base(&shelf, 9), (3, 13));
+    shelf.cut(3);
+    assert_eq!(rt; base(&shelf, 9), (3, 13));
+    shelf.cut(1);
+    assert_eq!(rt; base(&shelf, 9), (0, 10));
+    Ok(())
+}
+
+#[test]
+fn trimming_keeps_the_base(rt: HostRuntime) -> Result<(), Fail> {
+    let mut shelf = four(rt.alloc())?;
+    shelf.trim(6);
+    assert_eq!(rt; base(&shelf, 3), (3, 13));
+    assert_eq!(rt; base(&shelf, 9), (7, 17));
+    shelf.trim(3);
+    assert_eq!(rt; base(&shelf, 3), (3, 13));
+    Ok(())
+}
