@@ -1,22 +1,21 @@
 -- Entries in ascending order of their places.
-use Rattle.std.proofs.Common.{◌≡◌, ℕ, suc, ◌+◌, ◌-◌, ◌<◌, ◌≤◌, Bool, true, false, not, ◌&&◌, List, [], ◌∷◌, ◌++◌, length, get_or, max, refl, sym, ap, ◌∙◌, subst, arith, append-nil}
-use Rattle.std.specs.Prelude.{nat_le, nat_lt, Option, Some, None, IsSome, IfSome, ◌↔◌}
-use Rattle.std.specs.List.{All, AllByRecursion, filter}
+use Rattle.std.proofs.Common.{◌≡◌, ℕ, suc, ◌<◌, ◌≤◌, true, false, [], ◌∷◌, ◌++◌, length, max, refl, sym, ap, ◌∙◌, subst, arith}
+use Rattle.std.specs.Prelude.{nat_le, nat_lt, Some, slice_get}
+use Rattle.std.specs.List.{All, AllByRecursion}
 use Rattle.std.specs.List.Sorted.{IsStrictlySortedBy}
-use Rattle.std.specs.Ordering.{nat_cmp, is_lt, is_gt}
+use Rattle.std.specs.Ordering.{nat_cmp, is_lt, is_gt, is_eq}
 use Rattle.std.specs.declared.cmp.Ordering.{Ordering}
 use Rattle.std.specs.declared.cmp.Ordering.TheVariants.{Less, Equal, Greater}
-use Rattle.std.specs.declared.ops.Bound.{Bound}
 use Rattle.std.specs.declared.ops.Bound.TheVariants.{Included, Unbounded}
 use Rattle.std.specs.BTreeMap.Range.{range_contains, entries_between}
 use Rattle.std.specs.Cmp.{ranked}
 use Rattle.std.specs.Map.{keys_of}
-use Rattle.std.proofs.lemmas.Bool.{ltb-true, ltb-false, leb-true, leb-false, false≢true}
+use Rattle.std.proofs.lemmas.Bool.{ltb-false, leb-true, leb-false, false≢true}
 use Rattle.std.proofs.lemmas.Map.Keys.{le_from_not_gt, ge_from_not_lt}
 use Rattle.std.specs.Ordering.{MatchOrdering}
 use Rattle.dn_guest.specs.declared.node.Node.{Node}
-use Rattle.dn_lists.proofs.Lists.{by_test, Pairs, all_weaker, filter_same, filter_append, filter_all, pairs_filter, all_filter}
-use Rattle.dn_ckpt.specs.Shelves.{Kept, kept_up_to, kept_from, base_place}
+use Rattle.dn_lists.proofs.Lists.{by_test, Pairs, all_weaker, filter_same, filter_all, pairs_filter}
+use Rattle.dn_ckpt.specs.Shelves.{Kept, kept_at, kept_up_to, kept_from, base_place}
 
 -- ---- tests of numbers
 
@@ -41,6 +40,14 @@ less_is a b h = from_less (nat_cmp a b) (ranked a b (nat_cmp a b) refl) h
     from_less Less m e = m
     from_less Equal m e = absurd (cc)
     from_less Greater m e = absurd (cc)
+
+equal_is : (n m : ℕ) → is_eq (nat_cmp n m) ≡ true → n ≡ m
+equal_is n m h = from_test (nat_cmp n m) (ranked n m (nat_cmp n m) refl) h
+  where
+    from_test : (r : Ordering) → MatchOrdering r (n < m) (n ≡ m) (m < n) → is_eq r ≡ true → n ≡ m
+    from_test Less k e = absurd (false≢true e)
+    from_test Equal k e = k
+    from_test Greater k e = absurd (false≢true e)
 
 -- ---- all of them
 
@@ -116,3 +123,29 @@ module _ {S : Type 0} where
       let all = subst (AllByRecursion (λ x. nat_le x.0 place ≡ true)) is (all_kept place es) in
       let up = subst Ascends is (pairs_filter (λ x y. x.0 < y.0) (λ x. nat_le x.0 place) es (ascend es s)) in
       sym (base_last place others e all up) ∙ ap (base_place place) (sym is) ∙ base_kept place es
+
+  -- ---- the least place
+
+  pub has_base : (place at : ℕ) (es : Kept S) (node : Node S) → slice_get es 0 ≡ Some (at, node) → at ≤ place → 0 < length (kept_up_to place es)
+  has_base place at [] node got l = absurd (cc)
+  has_base place at (e ∷ es) node got l =
+      let same : e ≡ (at, node) = cc in
+      let here : e.0 ≡ at = ap (λ x. x.0) same in
+      let g : nat_le e.0 place ≡ true = ap (λ n. nat_le n place) here ∙ le_is at place l in
+      simp g (omega arith)
+
+  pub least_is : (at : ℕ) (es : Kept S) (node : Node S) → slice_get es 0 ≡ Some (at, node) → slice_get (keys_of es) 0 ≡ Some at
+  least_is at [] node got = absurd (cc)
+  least_is at (e ∷ es) node got = let same : e ≡ (at, node) = cc in ap (λ x. Some x.0) same
+
+  -- what is kept from a kept place on
+  pub some_from : (base : ℕ) (es : Kept S) (node : Node S) → kept_at es base ≡ Some node → 0 < length (kept_from base es)
+  some_from base [] node h = absurd (cc)
+  some_from base (e ∷ es) node h =
+      by_test (nat_le base e.0)
+      (λ g. simp g (omega arith))
+      (λ g.
+      let past = leb-false base e.0 g in
+      let other : is_eq (nat_cmp base e.0) ≡ false = by_test (is_eq (nat_cmp base e.0)) (λ k. absurd (let same = equal_is base e.0 k in omega (arith, same, past))) (λ k. k) in
+      let rest : kept_at es base ≡ Some node = simp other at h in
+      simp g (some_from base es node rest))

@@ -9,7 +9,8 @@
 //! | `ends.rt` | taking kept nodes off at either end |
 //!
 //! The one contract upwards: in a clause a `Shelf` is a finite map from places to node states, as the list of
-//! its entries in ascending order of the places, and `specs/Shelves.antt` says what each call does to it.
+//! its entries in ascending order of the places, and `specs/Shelves.antt` says what each call does to it. It is
+//! never empty.
 //!
 //! After a call that answered want of memory nothing is said of a shelf: its caller drops it.
 #![tactic(auto)]

@@ -1,6 +1,7 @@
 //! The shelf.
 
-ghost use Rattle.std.specs.Prelude.{◌≡◌, [], ◌∷◌, Some, OnOk, OnErr, IfOk};
+ghost use Rattle.std.specs.Prelude.{ℕ, ◌≡◌, ◌≤◌, [], ◌∷◌, Some, OnOk, OnErr, IfOk, slice_get};
+ghost use Rattle.std.specs.Map.{keys_of};
 ghost use Rattle.dn_ckpt.specs.Shelves.{HasBase, base_place, kept_at, kept_from, kept_up_to, with_kept};
 
 use crate::ends::{drop_before, drop_past};
@@ -16,11 +17,14 @@ pub struct Shelf<G: Guest> {
 }
 
 impl<G: Guest> Model for Shelf<G> {
+    ghost use Rattle.std.specs.Prelude.{◌<◌, length};
     ghost use Rattle.dn_ckpt.specs.Shelves.{Kept};
 
     ghost Value = { Kept G };
 
     ghost view = { λ s. s.kept.entries };
+
+    ghost invariant = { λ s. 0 < length s.kept.entries };
 }
 
 impl<G: Guest> Shelf<G> {
@@ -33,8 +37,19 @@ impl<G: Guest> Shelf<G> {
         Ok(Shelf { kept })
     }
 
+    /// The least kept place. Each place from it on has a base.
+    pub fn least_place(&self) -> u64
+        ensures least { slice_get (keys_of self.now) 0 ≡ Some result }
+        ensures base { (place : ℕ) → result ≤ place → HasBase place self.now }
+    {
+        match self.kept.first_key_value() {
+            Some((at, _)) => *at,
+            None => unreachable!(),
+        }
+    }
+
     /// The kept node with the greatest place that isn't past this one, and that place. The caller knows that
-    /// some kept place isn't past it.
+    /// it isn't before the least kept place.
     pub fn base_for(&self, place: u64) -> (u64, &Node<G>)
         requires { HasBase place self.now }
         ensures place { result.0 ≡ base_place place self.now }
@@ -55,7 +70,7 @@ impl<G: Guest> Shelf<G> {
         Ok(())
     }
 
-    /// Drops the nodes past the place. The caller knows that some kept place isn't past it.
+    /// Drops the nodes past the place. The caller knows that it isn't before the least kept place.
     pub fn cut(&mut self, place: u64)
         requires { HasBase place self.old }
         ensures { self.new ≡ kept_up_to place self.old }
@@ -63,13 +78,13 @@ impl<G: Guest> Shelf<G> {
         drop_past(&mut self.kept, place);
     }
 
-    /// Drops the nodes before the greatest kept place that isn't past this one. The caller knows that some
-    /// kept place isn't past it.
+    /// Drops the nodes before the greatest kept place that isn't past this one. The caller knows that it
+    /// isn't before the least kept place.
     pub fn trim(&mut self, place: u64)
         requires { HasBase place self.old }
         ensures { self.new ≡ kept_from (base_place place self.old) self.old }
     {
-        let (base, _) = self.base_for(place);
+        let base = self.base_for(place).0;
         drop_before(&mut self.kept, base);
     }
 }

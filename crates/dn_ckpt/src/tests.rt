@@ -14,10 +14,27 @@ fn node(alloc: Global, sends: u64) -> Node<Flood> {
     }
 }
 
-/// The place of the base for this one, and what its node has sent.
-fn base(shelf: &Shelf<Flood>, place: u64) -> (u64, u64) {
+/// The place of the base for this one, and what its node has sent: None before the least kept place.
+fn base(shelf: &Shelf<Flood>, place: u64) -> Option<(u64, u64)> {
+    if place < shelf.least_place() {
+        return None;
+    }
     let (at, node) = shelf.base_for(place);
-    (at, node.sends)
+    Some((at, node.sends))
+}
+
+/// Cuts the shelf, unless the place is before the least kept place.
+fn cut(shelf: &mut Shelf<Flood>, place: u64) {
+    if shelf.least_place() <= place {
+        shelf.cut(place);
+    }
+}
+
+/// Trims the shelf, unless the place is before the least kept place.
+fn trim(shelf: &mut Shelf<Flood>, place: u64) {
+    if shelf.least_place() <= place {
+        shelf.trim(place);
+    }
 }
 
 /// A shelf with nodes at places 0, 2, 3 and 7.
@@ -33,35 +50,36 @@ fn four(alloc: Global) -> Result<Shelf<Flood>, NoMemory> {
 #[test]
 fn the_base_is_the_greatest_place_that_is_not_past(rt: HostRuntime) -> Result<(), Fail> {
     let shelf = four(rt.alloc())?;
-    assert_eq!(rt; base(&shelf, 0), (0, 10));
-    assert_eq!(rt; base(&shelf, 1), (0, 10));
-    assert_eq!(rt; base(&shelf, 2), (2, 12));
-    assert_eq!(rt; base(&shelf, 3), (3, 13));
-    assert_eq!(rt; base(&shelf, 6), (3, 13));
-    assert_eq!(rt; base(&shelf, 7), (7, 17));
-    assert_eq!(rt; base(&shelf, 18_446_744_073_709_551_615), (7, 17));
+    assert_eq!(rt; base(&shelf, 0), Some((0, 10)));
+    assert_eq!(rt; base(&shelf, 1), Some((0, 10)));
+    assert_eq!(rt; base(&shelf, 2), Some((2, 12)));
+    assert_eq!(rt; base(&shelf, 3), Some((3, 13)));
+    assert_eq!(rt; base(&shelf, 6), Some((3, 13)));
+    assert_eq!(rt; base(&shelf, 7), Some((7, 17)));
+    assert_eq!(rt; base(&shelf, 18_446_744_073_709_551_615), Some((7, 17)));
     Ok(())
 }
 
 #[test]
 fn a_cut_drops_what_is_past_the_place(rt: HostRuntime) -> Result<(), Fail> {
     let mut shelf = four(rt.alloc())?;
-    shelf.cut(6);
-    assert_eq!(rt; base(&shelf, 9), (3, 13));
-    shelf.cut(3);
-    assert_eq!(rt; base(&shelf, 9), (3, 13));
-    shelf.cut(1);
-    assert_eq!(rt; base(&shelf, 9), (0, 10));
+    cut(&mut shelf, 6);
+    assert_eq!(rt; base(&shelf, 9), Some((3, 13)));
+    cut(&mut shelf, 3);
+    assert_eq!(rt; base(&shelf, 9), Some((3, 13)));
+    cut(&mut shelf, 1);
+    assert_eq!(rt; base(&shelf, 9), Some((0, 10)));
     Ok(())
 }
 
 #[test]
 fn trimming_keeps_the_base(rt: HostRuntime) -> Result<(), Fail> {
     let mut shelf = four(rt.alloc())?;
-    shelf.trim(6);
-    assert_eq!(rt; base(&shelf, 3), (3, 13));
-    assert_eq!(rt; base(&shelf, 9), (7, 17));
-    shelf.trim(3);
-    assert_eq!(rt; base(&shelf, 3), (3, 13));
+    trim(&mut shelf, 6);
+    assert_eq!(rt; base(&shelf, 2), None);
+    assert_eq!(rt; base(&shelf, 3), Some((3, 13)));
+    assert_eq!(rt; base(&shelf, 9), Some((7, 17)));
+    trim(&mut shelf, 3);
+    assert_eq!(rt; base(&shelf, 3), Some((3, 13)));
     Ok(())
 }
