@@ -12,3 +12,7 @@ on_ok (Err e) p f = tt
 pub on_err : {T E P R : Type 0} (r : Result T E) → OnErr r P → (P → R) → OnErr r R
 on_err (Ok x) p f = tt
 on_err (Err e) p f = f p
+
+pub on_err_all : {T E R : Type 0} (r : Result T E) → R → OnErr r R
+on_err_all (Ok x) h = tt
+on_err_all (Err e) h = h

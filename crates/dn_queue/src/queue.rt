@@ -3,6 +3,7 @@
 ghost use Rattle.std.specs.Prelude.{◌≡◌, [], ◌∷◌, OnOk, OnErr, IfOk, slice_get, option_copied, drop, map};
 ghost use Rattle.dn_world.specs.World.{no_part, with_todo, with_void};
 ghost use Rattle.dn_world.specs.Runs.{IsTidy};
+ghost use Rattle.dn_queue.specs.Comings.{HasComeInPart};
 
 use crate::ordered::Ordered;
 use crate::todo::Todo;
@@ -68,10 +69,11 @@ impl InQueue {
         self.voids.put(event)
     }
 
-    /// Several events come, as with `put`. After `NoMemory` some of them may have come: the caller drops the
-    /// queue.
+    /// Several events come, as with `put`. After `NoMemory` a front of them has come and the rest is lost: the
+    /// caller drops the queue.
     pub fn take_back(&mut self, events: Vec<Event>) -> Result<(), NoMemory>
-        ensures { OnOk result (self.new ≡ with_todo events.items self.old) }
+        ensures ok { OnOk result (self.new ≡ with_todo events.items self.old) }
+        ensures err { OnErr result (HasComeInPart events.items self.old self.new) }
     {
         let _ = &self.alloc;
         for event in events {
