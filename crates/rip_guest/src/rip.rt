@@ -55,7 +55,7 @@ fn kept_costs(alloc: Global, costs: &Costs) -> Result<Vec<u8>, AllocError>
 {
     let mut kept = Vec::new(alloc);
     for cost in costs.as_slice() {
-        kept.push((*cost).min(16) as u8)?;
+        kept.push((*cost).min(u16::from(INFINITY)) as u8)?;
     }
     Ok(kept)
 }
@@ -65,7 +65,7 @@ fn connect_at_start(table: &mut Table, prefix: (u32, u8, u16)) -> Result<(), All
     ensures { OnOk result (table.new ≡ with_own table.old prefix.0 prefix.1 (min 16 prefix.2) 0) }
 {
     let (address, len, metric) = prefix;
-    table.connect(address, len, metric.min(16) as u8, 0)
+    table.connect(address, len, metric.min(u16::from(INFINITY)) as u8, 0)
 }
 
 /// A table with the own networks at tick 0, none of them marked as changed.
@@ -170,7 +170,9 @@ impl Rip {
         match input {
             Input::Tick(group) => self.tick(alloc, ports, *group, out)?,
             Input::Cmd(body) => command(&mut self.table, self.last_tick, body.as_slice())?,
-            Input::Down(port) if self.has_port(*port) => self.table.lose_port(*port, self.last_tick),
+            Input::Down(port) if self.has_port(*port) => self
+                .table
+                .lose_port(*port, self.last_tick),
             Input::Up(port) if self.has_port(*port) => put_request(alloc, *port, out)?,
             Input::Msg(port, body) if self.has_port(*port) => {
                 self.message(alloc, *port, body.as_slice(), out)?
