@@ -2,6 +2,8 @@
 
 ghost use Rattle.std.specs.Prelude.{◌≤◌};
 
+mod rip;
+
 use crate::written::guests_of;
 use crate::{Status, defined_plain, defined_top, status_line, status_number};
 use dn_case::{CaseError, read_case};

@@ -67,11 +67,7 @@ fn write_recording<K: Sink>(alloc: Global, case: &Case, sink: &mut K) -> Result<
 }
 
 /// The trace of the lockstep run, with the guest of its kind at each router.
-fn write_run_trace<K: Sink>(
-    alloc: Global,
-    case: &Case,
-    sink: &mut K,
-) -> Result<Ending, WriteError>
+fn write_run_trace<K: Sink>(alloc: Global, case: &Case, sink: &mut K) -> Result<Ending, WriteError>
     ensures whole { OnOk result (K.holds sink.new ≡ behind (K.holds sink.old) (trace_of case.now)) }
     ensures ending { IfOk result (λ ending. is_cut_case case.now ≡ is_cut_ending ending) }
     ensures front { PutsFront (K.holds sink.old) (K.holds sink.new) (trace_of case.now) }

@@ -1,5 +1,6 @@
 -- Two guests of one sort with one image are equal.
-use Rattle.std.specs.Prelude.{◌≡◌, ap}
+use Rattle.std.specs.Prelude.{◌≡◌}
+use Rattle.std.proofs.Common.{ap}
 use Rattle.dn_guest.specs.Flood.{Bodies}
 use Rattle.dn_guest.specs.FloodImage.{same_by_image as same_bodies}
 use Rattle.rip_guest.specs.State.{RipState}

@@ -8,18 +8,18 @@
 //! | File | What it has |
 //! |---|---|
 //! | `any.rt` | `AnyGuest`, the guest of any kind |
-//! | `make.rt` | `make`, the guest before the first event |
+//! | `making.rt` | `make`, the guest before the first event |
 //!
 //! The one contract upwards: `make` answers `opening_guest` of `specs/Openings.antt`, and `AnyGuest` is a
 //! `Guest` whose meaning is `any` of `specs/Any.antt`, by cases on the guest inside.
 #![tactic(auto)]
 
 mod any;
-mod make;
+mod making;
 
 pub use any::AnyGuest;
 pub use dn_guest::NoMemory;
-pub use make::make;
+pub use making::make;
 
 #[cfg(test)]
 mod tests;
