@@ -4,10 +4,12 @@ import os
 import sys
 
 
-def case(period, groups, routers, links, feed):
+def case(period, groups, routers, links, feed, kind="flood", prefixes=False):
     lines = ["defined 1", f"period {period}", f"groups {groups}", "seed 0"]
-    lines += [f"router r{i} flood" for i in range(routers)]
+    lines += [f"router r{i} {kind}" for i in range(routers)]
     lines += [f"link r{a} r{b} {delay} 1" for a, b, delay in links]
+    if prefixes:
+        lines += [f"prefix r{i} 10.{i}.0.0/16 1" for i in range(routers)]
     lines += ["feed", *feed, "end"]
     return "\n".join(lines) + "\n"
 
@@ -26,6 +28,7 @@ CASES = {
     "ring_450": case(1000, 1, 64, ring(64, 4), commands(450, 64)),
     "idle_1000": case(100, 1000, 64, [], []),
     "idle_3125": case(100, 3125, 64, [], []),
+    "rip_ring": case(1000, 400, 64, ring(64, 1), [], "rip", True),
 }
 
 
