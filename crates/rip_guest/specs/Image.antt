@@ -3,7 +3,6 @@
 use Rattle.std.specs.Prelude.{ℕ, ◌+◌, ◌/◌, ◌%◌, ◌^◌, Bool, true, false, ◌==◌, if◌then◌else◌, List, [], ◌∷◌, ◌++◌, length, flat_map, Option, Some, None}
 use Rattle.rip_table.specs.declared.held.Held.{Held}
 use Rattle.rip_table.specs.Networks.{Network}
-use Rattle.rip_table.specs.Routes.{Routes}
 use Rattle.rip_guest.specs.State.{RipState}
 
 -- two bytes and four bytes of a number

@@ -5,7 +5,7 @@ use Rattle.rip_table.specs.declared.held.Held.{Held}
 use Rattle.rip_table.specs.Networks.{Network}
 use Rattle.rip_table.specs.Routes.{Routes}
 use Rattle.rip_guest.specs.State.{RipState}
-use Rattle.rip_guest.specs.Image.{two, four, bit, via_byte, mark_byte, route_image, rip_image}
+use Rattle.rip_guest.specs.Image.{two, bit, via_byte, mark_byte, route_image, rip_image}
 
 -- ---- numbers and lists
 

@@ -1,5 +1,5 @@
 -- Responses (RFC 2453 section 3.9.2): the entries are taken in order.
-use Rattle.std.specs.Prelude.{ℕ, if◌then◌else◌, List, fold, slice_index}
+use Rattle.std.specs.Prelude.{ℕ, if◌then◌else◌, List, fold}
 use Rattle.rip_wire.specs.declared.entry.Entry.{Entry}
 use Rattle.rip_table.specs.Response.{told}
 use Rattle.rip_table.specs.Routes.{Routes}

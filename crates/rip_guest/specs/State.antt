@@ -1,5 +1,5 @@
 -- The state of a RIP router.
-use Rattle.std.specs.Prelude.{ℕ, Bool, nat_lt, min, List, [], map, fold, filter, length, slice_index}
+use Rattle.std.specs.Prelude.{ℕ, Bool, nat_lt, min, List, [], map, fold, filter, length}
 use Rattle.std.specs.List.{range_with_len}
 use Rattle.dn_guest.specs.Ports.{is_up}
 use Rattle.rip_table.specs.Held.{settled}

@@ -25,13 +25,7 @@ fn has_room(table: &Table, address: u32, len: u8) -> bool
 }
 
 /// Sets a network to a metric of 1 to 15.
-fn set(
-    table: &mut Table,
-    address: u32,
-    len: u8,
-    metric: u16,
-    now: u32,
-) -> Result<(), AllocError>
+fn set(table: &mut Table, address: u32, len: u8, metric: u16, now: u32) -> Result<(), AllocError>
     ensures { OnOk result (table.new ≡ set table.old address len metric now) }
 {
     let is_valid = is_network(address, len) && 1 <= metric && metric <= GREATEST_METRIC;

@@ -57,11 +57,7 @@ fn answered(table: &Table, entry: Entry) -> Entry
 }
 
 /// The entries with the table's metrics.
-fn all_answered(
-    alloc: Global,
-    table: &Table,
-    entries: &[Entry],
-) -> Result<Vec<Entry>, AllocError>
+fn all_answered(alloc: Global, table: &Table, entries: &[Entry]) -> Result<Vec<Entry>, AllocError>
     ensures { IfOk result (λ made. made.items ≡ map (answered table.now) entries.now) }
 {
     let mut made = Vec::with_capacity(alloc, entries.len())?;

@@ -2,11 +2,14 @@
 
 ghost use Rattle.std.specs.Prelude.{◌≡◌, ◌↔◌, ◌≤◌, ◌++◌, IsTrue, IfOk, OnOk, length, map, min, refl};
 ghost use Rattle.dn_guest.specs.KeepsFront.{KeepsFront};
+ghost use Rattle.rip_table.specs.Held.{settled};
 ghost use Rattle.rip_table.specs.Own.{with_own};
+ghost use Rattle.rip_table.specs.Routes.{all_changed};
 ghost use Rattle.rip_wire.specs.Reading.{message_at};
 ghost use Rattle.rip_guest.specs.ImageTells.{same_by_image};
 ghost use Rattle.rip_guest.specs.Rip.{rip};
 ghost use Rattle.rip_guest.specs.State.{has_port, opening, opening_routes, with_routes};
+ghost use Rattle.rip_guest.specs.Updates.{updates};
 ghost use Rattle.rip_guest.specs.Step.{ended, handled, handled_outs, is_passed_over, outs_by, routes_by, tick_outs, tick_routes, triggered};
 
 use crate::commands::command;
@@ -55,7 +58,7 @@ fn kept_costs(alloc: Global, costs: &Costs) -> Result<Vec<u8>, AllocError>
 {
     let mut kept = Vec::new(alloc);
     for cost in costs.as_slice() {
-        kept.push((*cost).min(16) as u8)?;
+        kept.push((*cost).min(u16::from(INFINITY)) as u8)?;
     }
     Ok(kept)
 }
@@ -65,7 +68,7 @@ fn connect_at_start(table: &mut Table, prefix: (u32, u8, u16)) -> Result<(), All
     ensures { OnOk result (table.new ≡ with_own table.old prefix.0 prefix.1 (min 16 prefix.2) 0) }
 {
     let (address, len, metric) = prefix;
-    table.connect(address, len, metric.min(16) as u8, 0)
+    table.connect(address, len, metric.min(u16::from(INFINITY)) as u8, 0)
 }
 
 /// A table with the own networks at tick 0, none of them marked as changed.
@@ -109,6 +112,24 @@ impl Rip {
         port < self.port_count()
     }
 
+    /// Puts out an update on each up port, of all routes or of those alone that changed, and takes the marks
+    /// away.
+    fn update(
+        &mut self,
+        alloc: Global,
+        ports: u16,
+        only_changed: bool,
+        out: &mut Outbox,
+    ) -> Result<(), AllocError>
+        ensures state { OnOk result (self.new ≡ with_routes self.old (all_changed settled self.old.routes)) }
+        ensures outputs { OnOk result (out.new ≡ out.old ++ updates only_changed self.old.routes ports (length self.old.costs)) }
+    {
+        let count = self.port_count();
+        put_updates(alloc, ports, count, &self.table, only_changed, out)?;
+        self.table.settle();
+        Ok(())
+    }
+
     /// A tick: the timers, a request for the whole table at tick 0, and the regular update.
     fn tick(
         &mut self,
@@ -122,13 +143,11 @@ impl Rip {
     {
         self.last_tick = group;
         self.table.tick(group);
-        let count = self.port_count();
         if group == 0 {
-            put_requests(alloc, ports, count, out)?;
+            put_requests(alloc, ports, self.port_count(), out)?;
         }
         if group % UPDATE_INTERVAL == u32::from(self.number) % UPDATE_INTERVAL {
-            put_updates(alloc, ports, count, &self.table, false, out)?;
-            self.table.settle();
+            self.update(alloc, ports, false, out)?;
         }
         Ok(())
     }
@@ -170,7 +189,9 @@ impl Rip {
         match input {
             Input::Tick(group) => self.tick(alloc, ports, *group, out)?,
             Input::Cmd(body) => command(&mut self.table, self.last_tick, body.as_slice())?,
-            Input::Down(port) if self.has_port(*port) => self.table.lose_port(*port, self.last_tick),
+            Input::Down(port) if self.has_port(*port) => self
+                .table
+                .lose_port(*port, self.last_tick),
             Input::Up(port) if self.has_port(*port) => put_request(alloc, *port, out)?,
             Input::Msg(port, body) if self.has_port(*port) => {
                 self.message(alloc, *port, body.as_slice(), out)?
@@ -186,9 +207,7 @@ impl Rip {
         ensures outputs { OnOk result (out.new ≡ out.old ++ triggered ports self.old) }
     {
         if self.table.changed() {
-            let count = self.port_count();
-            put_updates(alloc, ports, count, &self.table, true, out)?;
-            self.table.settle();
+            self.update(alloc, ports, true, out)?;
         }
         Ok(())
     }

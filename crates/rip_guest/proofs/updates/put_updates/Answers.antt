@@ -1,4 +1,4 @@
-use Rattle.std.proofs.Common.{◌≡◌, ◌+◌, ◌++◌, arith}
+use Rattle.std.proofs.Common.{arith}
 use Rattle.std.proofs.lemmas.Grind.{common_steps}
 use Rattle.rip_guest.proofs.PortLaws.{updates_more}
 use Rattle.rip_guest.proofs.updates.put_updates.Goals as goal

@@ -3,6 +3,6 @@ use Rattle.std.proofs.lemmas.Grind.{common_steps}
 use Rattle.rip_guest.proofs.rip.Rip.tick.Goals as goal
 use Rattle.rip_guest.proofs.rip.Rip.tick.Goals.{then-group-eq0+in_ok-put_requests, else-group-eq0}
 
-pub returns-in_ok-put_updates-clause-outputs : goal.returns-in_ok-put_updates-clause-outputs
-returns-in_ok-put_updates-clause-outputs c =
+pub returns-in_ok-update-clause-outputs : goal.returns-in_ok-update-clause-outputs
+returns-in_ok-update-clause-outputs c =
     elim c.if-group-eq0.branch [ then-group-eq0+in_ok-put_requests w ↦ grind (arith, common_steps) | else-group-eq0 w ↦ grind (arith, common_steps) ]
