@@ -1,9 +1,9 @@
 -- The network of a case's guests, and what is written of its run.
-use Rattle.std.proofs.Common.{◌≡◌, ℕ, ◌+◌, ◌<◌, ◌≤◌, List, drop, length, map, Some, refl, ap, ◌∙◌, arith}
+use Rattle.std.proofs.Common.{◌≡◌, ℕ, ◌+◌, ◌<◌, ◌≤◌, List, [], ◌∷◌, ◌++◌, drop, length, map, Some, refl, sym, ap, ◌∙◌, arith}
 use Rattle.std.specs.Prelude.{slice_get}
 use Rattle.std.specs.List.{range_with_len}
 use Rattle.std.proofs.lemmas.List.{length-drop}
-use Rattle.std.proofs.lemmas.List.FromFn.{length-map-range_with_len, get_or-map-range_with_len}
+use Rattle.std.proofs.lemmas.List.FromFn.{length-map-range_with_len, get_or-map-range_with_len, map-range_with_len_more}
 use Rattle.std.proofs.lemmas.Option.{slice_get-get_or}
 use Rattle.guest_any.specs.declared.any.AnyGuest.{AnyGuest}
 use Rattle.guest_any.specs.Any.{any}
@@ -21,8 +21,14 @@ use Rattle.dn_trace.specs.Differing.{DiffersAt}
 use Rattle.dn_trace.specs.Streaming.{IsRunOf, EndsAs}
 use Rattle.dn_top.specs.Promises.{IsOtherTrace, network_of, is_cut_case, is_cut_ending, trace_of, written}
 
-abbrev openings : Heading → List AnyGuest
+abbrev pub openings : Heading → List AnyGuest
 openings h = map (λ r. opening_guest h r) (range_with_len 0 (length h.routers))
+
+pub one_more : (h : Heading) (n : ℕ) (guests : List AnyGuest) (guest : AnyGuest) → guests ≡ map (λ r. opening_guest h r) (range_with_len 0 n) → guest ≡ opening_guest h n → guests ++ guest ∷ [] ≡ map (λ r. opening_guest h r) (range_with_len 0 (n + 1))
+one_more h n guests guest before next =
+    ap (λ (gs : List AnyGuest). gs ++ guest ∷ []) before
+    ∙ ap (λ (g : AnyGuest). map (λ r. opening_guest h r) (range_with_len 0 n) ++ g ∷ []) next
+    ∙ sym (map-range_with_len_more (λ r. opening_guest h r) 0 n n (omega arith))
 
 pub one_each : (h : Heading) (guests : List AnyGuest) → guests ≡ openings h → length guests ≡ length h.routers
 one_each h guests made = rw made (length-map-range_with_len (λ r. opening_guest h r) 0 (length h.routers))
@@ -30,7 +36,7 @@ one_each h guests made = rw made (length-map-range_with_len (λ r. opening_guest
 opened_at : (h : Heading) (r : ℕ) → r < length h.routers → slice_get (openings h) r ≡ Some (opening_guest h r)
 opened_at h r l =
     slice_get-get_or (openings h) r (opening_guest h r) (let long = one_each h (openings h) refl in omega (arith, long, l))
-    ∙ ap (λ (g : AnyGuest). Some g) (get_or-map-range_with_len (λ r. opening_guest h r) 0 (length h.routers) r r (opening_guest h r) l refl)
+    ∙ ap (λ (g : AnyGuest). Some g) (get_or-map-range_with_len (λ r. opening_guest h r) 0 (length h.routers) r r (opening_guest h r) l (omega arith))
 
 -- the guests before the first event, one for each router
 pub guests_run : (h : Heading) (guests : List AnyGuest) → guests ≡ openings h → IsRunOf (network_of h) any h guests

@@ -30,6 +30,44 @@ const TRIANGLE: &[u8] = b"\
     end\n\
 ";
 
+/// The image is the router's number in two bytes, the last tick in four, the number of ports and the cost
+/// of each, the number of routes in two bytes, and of each route the address in four, the length, the tag
+/// in two, the metric, the port (255 for an own network), the time in four, and the mark.
+#[test]
+fn a_router_begins_with_its_settings(rt: HostRuntime) -> Result<(), Fail> {
+    let alloc = rt.alloc();
+    let text = b"\
+        defined 1\n\
+        period 10\n\
+        groups 1\n\
+        seed 0\n\
+        router a flood\n\
+        router b rip\n\
+        link b a 1 7\n\
+        link a b 1 16\n\
+        link b a 1 300\n\
+        prefix b 10.9.0.0/16 1\n\
+        feed\n\
+        end\n\
+    ";
+    let (case, _) = read_case(alloc, text).ok().ok_or("it is a case")?;
+    let guests = guests_of(alloc, &case)?;
+    assert_eq!(rt; guests.len(), 2);
+    if let Some(guest) = guests.last() {
+        let mut image = Bytes::new(alloc);
+        guest.image(alloc, &mut image)?;
+        let whole = [
+            0, 1, 0, 0, 0, 0, 3, 7, 16, 16, 0, 1, 10, 9, 0, 0, 16, 0, 0, 1, 255, 0, 0, 0, 0, 0,
+        ];
+        assert_eq!(rt; image.as_slice(), whole.as_slice());
+        assert_eq!(rt; guest.sort(), 2);
+    }
+    if let Some(guest) = guests.first() {
+        assert_eq!(rt; guest.sort(), 0);
+    }
+    Ok(())
+}
+
 /// Handles all rows before the first of the group.
 fn run_until(alloc: Global, engine: &mut Engine<AnyGuest>, group: u32) -> Result<(), NoMemory>
     ensures { engine.new.header ≡ engine.old.header }
