@@ -23,6 +23,7 @@ use Rattle.dn_lists.proofs.Sorting.{Rises, turn, permutation_in_order, rises_in_
 use Rattle.dn_lockstep.specs.declared.queued.Queued.{Queued}
 use Rattle.dn_lockstep.specs.Least.{IsUpTo, IsLeast}
 use Rattle.dn_lockstep.specs.Queues.{queued_events}
+use Rattle.dn_lockstep.proofs.Places.{no_items}
 
 pub moved_events : (xs ys : List Queued) → IsPermutation xs ys → IsPermutation (queued_events xs) (queued_events ys)
 moved_events xs ys h = IsPermutation-map (λ q. q.event) xs ys h
@@ -32,11 +33,7 @@ pub some_least : (events : List Event) → (events ≡ [] → ⊥) → (e : Even
 some_least events some = first (in_order event_cmp events) (permutation_in_order event_cmp events) (rises_in_order event_cmp event_total events)
   where
     first : (sorted : List Event) → IsPermutation events sorted → Rises event_cmp sorted → (e : Event) × IsLeast e events
-    first [] moves rises = absurd (some (no_elements events (sym (length_permutation events [] moves))))
-      where
-        no_elements : (xs : List Event) → length xs ≡ 0 → xs ≡ []
-        no_elements [] l = refl
-        no_elements (x ∷ xs) l = absurd (omega (arith, l))
+    first [] moves rises = absurd (some (no_items events (sym (length_permutation events [] moves))))
     first (x ∷ xs) moves rises = (x, record { rest = xs; among = moves; first = rises.0 })
 
 -- where the keys differ, they decide

@@ -1,8 +1,9 @@
 -- The parts of one step, put together.
 use Rattle.std.proofs.Common.{◌≡◌, ℕ, ◌<◌, List, ◌∷◌, ◌++◌, length, get_or, refl, sym, ap, ◌∙◌, subst}
 use Rattle.std.specs.Prelude.{slice_get, slice_set}
+use Rattle.std.specs.List.{remove}
 use Rattle.std.specs.List.Sorted.{IsPermutation}
-use Rattle.std.proofs.lemmas.List.Sorted.{IsPermutation-trans}
+use Rattle.std.proofs.lemmas.List.Sorted.{IsPermutation-trans, IsPermutation-remove}
 use Rattle.std.proofs.lemmas.Option.{slice_get_read}
 use Rattle.dn_guest.specs.declared.node.Node.{Node}
 use Rattle.dn_guest.specs.declared.node.Sent.{Sent}
@@ -24,6 +25,9 @@ use Rattle.dn_lockstep.specs.Steps.{AreInside, IsHandled}
 -- what waits is at routers of the network, and so is the first of it
 pub first_inside : (count : ℕ) (waiting rest : List Event) (e : Event) → IsPermutation waiting (e ∷ rest) → AreInside count waiting → e.router < count
 first_inside count waiting rest e moves inside = (all_permutation (λ w. w.router < count) waiting (e ∷ rest) moves inside).0
+
+pub router_inside : (count : ℕ) (waiting : List Event) (e : Event) (at : ℕ) → at < length waiting → e ≡ get_or waiting at e → AreInside count waiting → e.router < count
+router_inside count waiting e at within is inside = first_inside count waiting (remove waiting at) e (IsPermutation-remove waiting at e within is) inside
 
 module _ {S : Type 0} (guests : Meaning S) (header : Heading) (nodes : List (Node S)) where
   pub handled_from : (waiting rest sent_in done : List Event) (e : Event) (i : ℕ) (node new : Node S) (sents : List Sent) (t : Timing) (far : List End) → IsPermutation waiting (e ∷ rest) → IsUpTo e rest → i ≡ e.router → i < length nodes → node ≡ get_or nodes i node → new ≡ node_after guests (get_or nodes i node) e.input → sents ≡ node_sent guests (get_or nodes i node) e.input → t ≡ timing_of header → far ≡ ends header.links e.router → IsPermutation (rest ++ emitted_by t far e sents) sent_in → IsPermutation sent_in done → IsHandled guests header nodes waiting e (slice_set nodes i new) done

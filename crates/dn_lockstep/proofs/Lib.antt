@@ -1,13 +1,15 @@
 pub mod Options
+pub mod Places
 pub mod Firsts
 pub mod Groups
 pub mod Buckets
 pub mod Taking
 pub mod Queueing
 pub mod Wired
-pub mod Places
 pub mod Handling
 pub mod Onward
 pub mod Start
 pub mod Messages
 pub mod TwoRouters
+pub mod GeneratedCases
+pub mod PlainSteps

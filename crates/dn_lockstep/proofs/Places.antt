@@ -49,3 +49,7 @@ module _ {X : Type 0} where
   kept_items n xs ys e =
       let whole : take n xs ≡ xs = take_all n xs (omega (arith, e)) in
       take-append-le n xs (drop (length xs) ys) (omega (arith, e)) ∙ whole
+
+  pub no_items : (xs : List X) → length xs ≡ 0 → xs ≡ []
+  no_items [] none = refl
+  no_items (x ∷ xs) none = absurd (omega (arith, none))

@@ -45,14 +45,16 @@ externals_append place (x ∷ xs) ys =
     let e : place + suc (length xs) ≡ suc place + length xs = omega arith in
     rw e (ap (λ l. external place x ∷ l) (externals_append (suc place) xs ys))
 
-pub one_external_more : (feed : List External) (place : ℕ) (x : External) (made new : List Event) → place < length feed → x ≡ get_or feed place x → IsPermutation (externals 0 (take place feed)) made → IsPermutation (external place x ∷ made) new → IsPermutation (externals 0 (take (place + 1) feed)) new
+pub externals_next : (feed : List External) (place : ℕ) (x : External) → place < length feed → x ≡ get_or feed place x → externals 0 (take (place + 1) feed) ≡ externals 0 (take place feed) ++ external place x ∷ []
 unfolding externals
-one_external_more feed place x made new l is so more =
+externals_next feed place x l is =
     let cut : take (place + 1) feed ≡ take place feed ++ x ∷ [] = take_more feed place x l ∙ ap (λ y. take place feed ++ y ∷ []) (sym is) in
     let len : 0 + length (take place feed) ≡ place = omega (arith, length-take-le place feed (omega arith)) in
-    let all : externals 0 (take (place + 1) feed) ≡ externals 0 (take place feed) ++ external place x ∷ [] =
-    ap (externals 0) cut ∙ externals_append 0 (take place feed) (x ∷ []) ∙ ap (λ n. externals 0 (take place feed) ++ externals n (x ∷ [])) len in
-    subst (λ (es : List Event). IsPermutation es new) (sym all) (IsPermutation-push_more (externals 0 (take place feed)) made new (external place x) so more)
+    ap (externals 0) cut ∙ externals_append 0 (take place feed) (x ∷ []) ∙ ap (λ n. externals 0 (take place feed) ++ externals n (x ∷ [])) len
+
+pub one_external_more : (feed : List External) (place : ℕ) (x : External) (made new : List Event) → place < length feed → x ≡ get_or feed place x → IsPermutation (externals 0 (take place feed)) made → IsPermutation (external place x ∷ made) new → IsPermutation (externals 0 (take (place + 1) feed)) new
+one_external_more feed place x made new l is so more =
+    subst (λ (es : List Event). IsPermutation es new) (sym (externals_next feed place x l is)) (IsPermutation-push_more (externals 0 (take place feed)) made new (external place x) so more)
 
 -- ---- what a step emits
 

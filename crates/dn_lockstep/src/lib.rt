@@ -38,4 +38,8 @@ mod wiring;
 pub use engine::{Engine, Next};
 
 #[cfg(test)]
+mod generated;
+#[cfg(test)]
+mod plain;
+#[cfg(test)]
 mod tests;
