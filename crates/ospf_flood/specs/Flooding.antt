@@ -1,5 +1,5 @@
 -- Flooding of an LSA (RFC 2328 section 13.3): what it does to the retransmission lists and to the database.
-use Rattle.std.specs.Prelude.{◌+◌, ◌==◌, ℕ, List, [], ◌∷◌, if◌then◌else◌}
+use Rattle.std.specs.Prelude.{◌+◌, ◌==◌, ℕ, [], ◌∷◌, if◌then◌else◌}
 use Rattle.dn_guest.specs.Ports.{is_up}
 use Rattle.ospf_lsdb.specs.declared.key.LsaKey.{LsaKey}
 use Rattle.ospf_lsdb.specs.Kept.{sent_at}

@@ -1,5 +1,4 @@
 pub mod Lists
 pub mod Flooding
-pub mod Stub
 pub mod Table
 pub mod Receiving

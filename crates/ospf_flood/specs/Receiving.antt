@@ -13,11 +13,11 @@ use Rattle.ospf_flood.specs.Lists.{list_of, off, off_all}
 use Rattle.ospf_flood.specs.Flooding.{State, flooded}
 use Rattle.ospf_flood.specs.Table.{taken, verdict_of}
 
--- an instance of the router's own LSA
+-- an instance of the router's own LSA (section 13.4)
 abbrev pub is_own : Lsa → ℕ → Bool
 is_own l own = l.head.router == own && l.head.id == own
 
--- an LSA that has the router as its advertising router, and isn't its own LSA
+-- an LSA that has the router as its advertising router, and isn't its own LSA (section 13.4)
 abbrev pub is_stray : Lsa → ℕ → Bool
 is_stray l own = l.head.router == own && not (l.head.id == own)
 
@@ -25,8 +25,8 @@ is_stray l own = l.head.router == own && not (l.head.id == own)
 abbrev pub to_install : Lsa → Lsa
 to_install l = record l { head = taken l.head }
 
--- The old instance leaves all lists, the LSA is installed, and is flooded on the ports
--- but the one on which it came.
+-- The old instance leaves all lists, the LSA is installed, and it is flooded on the ports of the mask but the one on
+-- which it came (section 13, step 5).
 abbrev pub spread : State → ℕ → ℕ → Lsa → ℕ → ℕ → State
 spread s full from l own now =
     let key = key_of l.head in
@@ -53,7 +53,7 @@ after Installed s full from l own now = installed s full from l own now
 after SentBack s full from l own now = record s { db = changed (key_of l.head) (sent_at now) s.db }
 after Implied s full from l own now = record s { lists = slice_set s.lists from (off (key_of l.head) (list_of s.lists from)) }
 
--- the state after an LSA came on the port `from`
+-- the state after an LSA came on the port `from`; `full` is the mask of the up ports with a full neighbour
 abbrev pub received : State → ℕ → ℕ → Lsa → ℕ → ℕ → State
 received s full from l own now = after (verdict_of s.db (list_of s.lists from) l now) s full from l own now
 

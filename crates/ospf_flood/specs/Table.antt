@@ -1,5 +1,5 @@
 -- The table by which an LSA is judged that comes in a Link State Update (RFC 2328 section 13).
-use Rattle.std.specs.Prelude.{◌+◌, ◌%◌, ◌==◌, ◌&&◌, ◌||◌, ℕ, Bool, true, false, not, nat_eq, nat_le, min, if◌then◌else◌, List, length, sum, Option, Some, None, is_some}
+use Rattle.std.specs.Prelude.{◌%◌, ◌==◌, ◌&&◌, ◌||◌, ℕ, Bool, false, not, nat_eq, nat_le, min, if◌then◌else◌, length, sum, Option, Some, None, is_some}
 use Rattle.std.specs.Option.{is_none, option_eq}
 use Rattle.std.specs.declared.cmp.Ordering.{Ordering}
 use Rattle.std.specs.declared.cmp.Ordering.TheVariants.{Less, Equal, Greater}
@@ -15,7 +15,7 @@ use Rattle.ospf_lsdb.specs.Database.{Database, kept_at}
 use Rattle.ospf_flood.specs.declared.table.Verdict.{Verdict}
 use Rattle.ospf_flood.specs.declared.table.Verdict.TheVariants.{Discarded, Acked, Installed, SentBack, Implied}
 use Rattle.ospf_flood.specs.Lists.{OnPort, tick_of}
-use Rattle.ospf_flood.specs.Stub.{is_well_formed}
+use Rattle.ospf_wire.specs.Reading.{is_well_formed}
 
 -- an age above 3,600 is taken as 3,600
 abbrev pub taken : LsaHeader → LsaHeader
@@ -57,7 +57,8 @@ abbrev pub copy_is : (Kept → Bool) → Option Kept → Bool
 copy_is test None = false
 copy_is test (Some k) = test k
 
--- The table. The first line that holds decides.
+-- The table (section 13), where the database has so many LSAs, and `listed` says whether the LSA stands on the list of
+-- the port on which it comes. The first line that holds decides.
 abbrev pub by_table : Lsa → ℕ → Option Kept → ℕ → Bool → Verdict
 by_table l now copy count listed =
     if not (has_right_sum l) then Discarded

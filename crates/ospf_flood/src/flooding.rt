@@ -99,6 +99,7 @@ pub fn flood(
     ensures lists { OnOk result (lists.new ≡ (flooded ports key now (state db.old lists.old)).lists) }
     ensures database_err { OnErr result (db.new ≡ db.old) }
     ensures lists_err { OnErr result (lists.new ≡ lists.old) }
+    ensures count { length lists.new ≡ length lists.old }
 {
     lists.put_on(ports, key, now)?;
     note(db, ports, &key, now);

@@ -65,6 +65,7 @@ impl Lists {
     pub fn put_on(&mut self, ports: u16, key: LsaKey, now: u32) -> Result<(), AllocError>
         ensures ok { OnOk result (self.new ≡ put_on ports key now self.old) }
         ensures err { OnErr result (self.new ≡ self.old) }
+        ensures count { length self.new ≡ length self.old }
     {
         put_each(self.ports.as_mut_slice(), 0, ports, key, now)
     }
@@ -79,7 +80,8 @@ impl Lists {
 
     /// Takes the LSA off every list.
     pub fn take_all(&mut self, key: &LsaKey)
-        ensures { self.new ≡ off_all key.now self.old }
+        ensures lists { self.new ≡ off_all key.now self.old }
+        ensures count { length self.new ≡ length self.old }
     {
         take_each(self.ports.as_mut_slice(), key);
     }
@@ -98,6 +100,7 @@ impl Lists {
         ensures database { OnOk result (db.new ≡ with_kept db.old (key_of lsa.head) (fresh lsa now true foreign)) }
         ensures lists_err { OnErr result (self.new ≡ self.old) }
         ensures database_err { OnErr result (db.new ≡ db.old) }
+        ensures count { length self.new ≡ length self.old }
     {
         install_from(self.ports.as_mut_slice(), 0, ports, db, lsa, foreign, now)
     }

@@ -76,6 +76,7 @@ fn spread(
     ensures lists { OnOk result (lists.new ≡ (spread (state db.old lists.old) full from lsa.now own now).lists) }
     ensures database_err { OnErr result (db.new ≡ db.old) }
     ensures lists_err { OnErr result (lists.new ≡ lists.old) }
+    ensures count { length lists.new ≡ length lists.old }
 {
     let key = key_of(&lsa.head);
     let ports = but(full, from);
@@ -99,6 +100,7 @@ fn spread_and_flush(
     ensures lists { OnOk result (lists.new ≡ (flushed (spread (state db.old lists.old) full from lsa.now own now) full (key_of lsa.now.head) now).lists) }
     ensures database_err { OnErr result (db.new ≡ db.old) }
     ensures lists_err { OnErr result (lists.new ≡ lists.old) }
+    ensures count { length lists.new ≡ length lists.old }
 {
     let key = key_of(&lsa.head);
     lists.install(full, db, to_install(lsa)?, is_own(lsa, own), now)?;
@@ -122,6 +124,7 @@ fn install(
     ensures lists { OnOk result (lists.new ≡ (installed (state db.old lists.old) full from lsa.now own now).lists) }
     ensures database_err { OnErr result (db.new ≡ db.old) }
     ensures lists_err { OnErr result (lists.new ≡ lists.old) }
+    ensures count { length lists.new ≡ length lists.old }
 {
     if is_stray(lsa, own) {
         spread_and_flush(db, lists, full, from, lsa, own, now)
@@ -146,6 +149,7 @@ fn act(
     ensures lists { OnOk result (lists.new ≡ (after verdict (state db.old lists.old) full from lsa.now own now).lists) }
     ensures database_err { OnErr result (db.new ≡ db.old) }
     ensures lists_err { OnErr result (lists.new ≡ lists.old) }
+    ensures count { length lists.new ≡ length lists.old }
 {
     match verdict {
         Verdict::Discarded | Verdict::Acked => Ok(()),
@@ -198,6 +202,7 @@ pub fn receive(
     ensures lists { OnOk result (lists.new ≡ (received (state db.old lists.old) full from lsa.now own now).lists) }
     ensures database_err { OnErr result (db.new ≡ db.old) }
     ensures lists_err { OnErr result (lists.new ≡ lists.old) }
+    ensures count { length lists.new ≡ length lists.old }
 {
     let verdict = judge(db, lists, from, lsa, now);
     act(verdict, db, lists, full, from, lsa, own, now)?;

@@ -6,9 +6,8 @@ ghost use Rattle.ospf_flood.specs.Lists.{list_of};
 ghost use Rattle.ospf_flood.specs.Table.{has_right_sum, head_now, is_last, is_router_lsa, sound, taken, verdict_of, with_copy};
 
 use crate::Lists;
-use crate::stub::is_well_formed;
 use ospf_lsdb::{Kept, Lsdb, key_of};
-use ospf_wire::{LAST_SEQ, Lsa, LsaHeader, MAX_AGE, fletcher_ok, newer};
+use ospf_wire::{LAST_SEQ, Lsa, LsaHeader, MAX_AGE, fletcher_ok, is_well_formed, newer};
 use std::cmp::Ordering;
 
 /// The number of LSAs from which on no further LSA is taken, so that there is always room for the

@@ -76,14 +76,11 @@ fn hop_of(from: u32, link: &RouterLink, ids: &[u32], ways: &BTreeSet<(u32, u32)>
     requires { AreRising ids.now }
     ensures { MatchOption result ((h : Hop) → IsHopOf from ids.now ways.now h link.now → ⊥) (λ h. IsHopOf from ids.now ways.now h link.now × (h.metric ≤ 65535)) }
 {
-    if leads(link) && ways.contains(&(link.id, from)) {
-        match position(ids, link.id) {
-            Some(to) => Some(hop_to(to, link.data, link.metric)),
-            None => None,
-        }
-    } else {
-        None
+    if !leads(link) || !ways.contains(&(link.id, from)) {
+        return None;
     }
+    let to = position(ids, link.id)?;
+    Some(hop_to(to, link.data, link.metric))
 }
 
 /// The hops of a router.

@@ -37,20 +37,17 @@ fn offer_of(link: &RouterLink, cost: u32, own: bool, via: u16) -> Option<Route>
     requires { cost + 65535 < 2 ^ 32 }
     ensures { MatchOption result ((r : Route) → IsOffer cost own via link.now r → ⊥) (λ r. IsOffer cost own via link.now r) }
 {
-    if link.kind == 3 {
-        match mask_len(link.data) {
-            Some(len) => Some(Route {
-                prefix: link.id & link.data,
-                len,
-                cost: cost + u32::from(link.metric),
-                own,
-                via,
-            }),
-            None => None,
-        }
-    } else {
-        None
+    if link.kind != 3 {
+        return None;
     }
+    let len = mask_len(link.data)?;
+    Some(Route {
+        prefix: link.id & link.data,
+        len,
+        cost: cost + u32::from(link.metric),
+        own,
+        via,
+    })
 }
 
 /// Adds the offers of a vertex.

@@ -3,6 +3,7 @@
 ghost use Rattle.std.specs.Prelude.{◌≤◌, length};
 
 use crate::{NoMemory, Route, routes};
+use dn_guest::Bytes;
 use ospf_lsdb::Lsdb;
 use ospf_wire::{FIRST_SEQ, Lsa, LsaHeader, RouterLink, router_body};
 use std::alloc::Global;
@@ -244,6 +245,101 @@ fn without_the_own_lsa_there_is_no_route(rt: HostRuntime) -> Result<(), Fail> {
     let mut db = Lsdb::new(rt.alloc());
     add(rt.alloc(), &mut db, 1, 3_600, &[stub(NET, MASK_24, 1)])?;
     assert_eq!(rt; table(rt.alloc(), &db, 1, 0)?.len(), 0);
+    Ok(())
+}
+
+/// Installs an LSA of this name at tick 0.
+fn add_named(
+    alloc: Global,
+    db: &mut Lsdb,
+    kind: u8,
+    router: u32,
+    body: &[u8],
+) -> Result<(), NoMemory>
+    requires { length body.now ≤ 1000 }
+{
+    let head = LsaHeader {
+        age: 0,
+        options: 2,
+        kind,
+        id: 2,
+        router,
+        seq: FIRST_SEQ,
+        sum: 0,
+        length: (20 + body.len()) as u16,
+    };
+    let body = Bytes::from_slice(alloc, body)?;
+    db.install(Lsa { head, body }, 0, true, false)
+}
+
+#[test]
+fn lsas_that_are_no_vertex(rt: HostRuntime) -> Result<(), Fail> {
+    // A link to router 1 of metric 1, and a stub link to 10.0.6.0/24 of metric 1.
+    let body =
+        b"\x00\x00\x00\x02\x00\x00\x00\x01\x00\x00\x00\x01\x01\x00\x00\x01\x0a\x00\x06\x00\xff\xff\xff\x00\x03\x00\x00\x01";
+    let mut db = Lsdb::new(rt.alloc());
+    add(rt.alloc(), &mut db, 1, 0, &[to(2, 1, 10)])?;
+    // Another type, another advertising router, a body without its last byte.
+    add_named(rt.alloc(), &mut db, 2, 2, body)?;
+    add_named(rt.alloc(), &mut db, 1, 3, body)?;
+    add_named(rt.alloc(), &mut db, 1, 2, &body[..27])?;
+    assert_eq!(rt; table(rt.alloc(), &db, 1, 0)?.len(), 0);
+    add_named(rt.alloc(), &mut db, 1, 2, body)?;
+    assert_eq!(rt;
+        table(rt.alloc(), &db, 1, 0)?.as_slice(),
+        [net(11, false, 0b1)].as_slice()
+    );
+    Ok(())
+}
+
+/// Six routers with links a b, b c, c d, d a, d e, e f, f c of cost 10 and a network of cost 1 at f; with or
+/// without the link d a. The ports of a router are its places among these links.
+fn six(alloc: Global, whole: bool) -> Result<Lsdb, NoMemory> {
+    let mut db = Lsdb::new(alloc);
+    add(alloc, &mut db, 2, 0, &[to(1, 1, 10), to(3, 2, 10)])?;
+    add(
+        alloc,
+        &mut db,
+        3,
+        0,
+        &[to(2, 1, 10), to(4, 2, 10), to(6, 3, 10)],
+    )?;
+    add(alloc, &mut db, 5, 0, &[to(4, 1, 10), to(6, 2, 10)])?;
+    add(
+        alloc,
+        &mut db,
+        6,
+        0,
+        &[to(5, 1, 10), to(3, 2, 10), stub(NET, MASK_24, 1)],
+    )?;
+    if whole {
+        add(alloc, &mut db, 1, 0, &[to(2, 1, 10), to(4, 2, 10)])?;
+        add(
+            alloc,
+            &mut db,
+            4,
+            0,
+            &[to(3, 1, 10), to(1, 2, 10), to(5, 3, 10)],
+        )?;
+    } else {
+        add(alloc, &mut db, 1, 0, &[to(2, 1, 10)])?;
+        add(alloc, &mut db, 4, 0, &[to(3, 1, 10), to(5, 3, 10)])?;
+    }
+    Ok(db)
+}
+
+#[test]
+fn six_routers_with_and_without_a_link(rt: HostRuntime) -> Result<(), Fail> {
+    let whole = six(rt.alloc(), true)?;
+    assert_eq!(rt;
+        table(rt.alloc(), &whole, 1, 0)?.as_slice(),
+        [net(31, false, 0b11)].as_slice()
+    );
+    let cut = six(rt.alloc(), false)?;
+    assert_eq!(rt;
+        table(rt.alloc(), &cut, 1, 0)?.as_slice(),
+        [net(31, false, 0b01)].as_slice()
+    );
     Ok(())
 }
 

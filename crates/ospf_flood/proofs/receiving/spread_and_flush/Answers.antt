@@ -1,4 +1,4 @@
-use Rattle.std.proofs.Common.{◌≡◌, ap, sym, ◌∙◌}
+use Rattle.std.proofs.Common.{ap, sym, ◌∙◌}
 use Rattle.ospf_wire.specs.declared.lsa.Lsa.{Lsa}
 use Rattle.ospf_lsdb.specs.Keys.{key_of}
 use Rattle.ospf_flood.specs.Lists.{off_all}

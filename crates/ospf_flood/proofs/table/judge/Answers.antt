@@ -19,7 +19,7 @@ returns c =
     let copy : option_copied c.get.result ≡ kept_at db (key_of l.head) = c.get.ensures.kept ∙ ap (λ (k : LsaKey). kept_at db k) c.key_of-key.ensures in
     let count : c.len.result ≡ length db = c.len.ensures.count in
     let listed : c.is_some-listed.result ≡ is_some (tick_of list (key_of l.head)) =
-        c.is_some-listed.ensures ∙ ap (λ (o : Option ℕ). is_some o) c.sent_at.ensures ∙ ap (λ (k : LsaKey). is_some (tick_of list k)) c.key_of-key.ensures in
+    c.is_some-listed.ensures ∙ ap (λ (o : Option ℕ). is_some o) c.sent_at.ensures ∙ ap (λ (k : LsaKey). is_some (tick_of list k)) c.key_of-key.ensures in
     c.sound.ensures
     ∙ ap (λ (o : Option Kept). sound l.head c.args.now o c.len.result c.is_some-listed.result) copy
     ∙ ap (λ (n : ℕ). sound l.head c.args.now (kept_at db (key_of l.head)) n c.is_some-listed.result) count
