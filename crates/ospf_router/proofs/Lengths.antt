@@ -1,5 +1,5 @@
 -- No step of flooding changes how many lists there are.
-use Rattle.std.proofs.Common.{◌≡◌, ℕ, Bool, true, false, ◌+◌, [], ◌∷◌, length, refl, ap, ◌∙◌, cond}
+use Rattle.std.proofs.Common.{◌≡◌, ℕ, Bool, true, false, suc, ◌+◌, [], ◌∷◌, length, refl, ap, ◌∙◌, cond}
 use Rattle.std.proofs.lemmas.List.{length-map, length-set}
 use Rattle.dn_guest.specs.Ports.{with_down}
 use Rattle.ospf_wire.specs.declared.lsa.Lsa.{Lsa}

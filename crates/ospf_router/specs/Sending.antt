@@ -28,11 +28,14 @@ unfoldable pub flooded_on : ℕ → LsaKey → Router → Router
 flooded_on mask key r =
     putting (update_on mask r.number (copy_of r.tick r.db key)) (with_state (flooded mask key r.tick (state r.db r.interfaces.lists)) r)
 
+abbrev pub flooded_by : ℕ → Router → LsaKey → Router
+flooded_by mask r key = flooded_on mask key r
+
 -- an LSA stands on a port's list and is noted as sent, both now
-unfoldable pub noted_at : ℕ → LsaKey → Router → Router
-noted_at port key r = record r { interfaces = listed port key r.tick r.interfaces; db = changed key (sent_at r.tick) r.db }
+unfoldable pub noted_at : ℕ → Router → LsaKey → Router
+noted_at port r key = record r { interfaces = listed port key r.tick r.interfaces; db = changed key (sent_at r.tick) r.db }
 
 -- LSAs are sent on a port: they stand on its list, are noted as sent, and go out packed into Updates.
 unfoldable pub offered : ℕ → List LsaKey → Router → Router
 offered port keys r =
-    fold (λ s key. noted_at port key s) (putting (updates_on port r.number r.tick r.db keys) r) keys
+    fold (noted_at port) (putting (updates_on port r.number r.tick r.db keys) r) keys

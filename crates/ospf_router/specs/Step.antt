@@ -69,8 +69,12 @@ IsTaken (Msg port bytes) = ⊤
 unfoldable pub stepped : ℕ → Input → Router → Router
 stepped ports input r = finished ports (handled ports input r)
 
+-- a step, but for a tick that is passed over
+unfoldable pub next : ℕ → Input → Router → Router
+next ports input r = if is_passed_over r.tick input then r else stepped ports input r
+
 unfoldable pub ospf_after : OspfState → ℕ → Input → OspfState
-ospf_after s ports input = if is_passed_over s.tick input then s else state_of (stepped ports input (router_of s))
+ospf_after s ports input = state_of (next ports input (router_of s))
 
 unfoldable pub ospf_outs : OspfState → ℕ → Input → List Output
-ospf_outs s ports input = if is_passed_over s.tick input then [] else (stepped ports input (router_of s)).out
+ospf_outs s ports input = (next ports input (router_of s)).out

@@ -3,14 +3,13 @@ use Rattle.std.specs.Prelude.{ℕ, ◌%◌, ◌==◌, if◌then◌else◌, List,
 use Rattle.std.specs.List.{range_with_len}
 use Rattle.dn_guest.specs.Ports.{is_up}
 use Rattle.ospf_wire.specs.declared.packet.Body.TheVariants as body
-use Rattle.ospf_lsdb.specs.declared.key.LsaKey.{LsaKey}
 use Rattle.ospf_lsdb.specs.Database.{aged, ending}
 use Rattle.ospf_flood.specs.Lists.{due, list_of}
 use Rattle.ospf_router.specs.declared.router.Router.{Router}
 use Rattle.ospf_router.specs.Neighbours.{is_dead}
 use Rattle.ospf_router.specs.Interfaces.{AtPorts, full_mask, lowered, neighbour_at}
 use Rattle.ospf_router.specs.Hellos.{hello_to}
-use Rattle.ospf_router.specs.Sending.{flooded_on, offered, put_packet}
+use Rattle.ospf_router.specs.Sending.{flooded_by, offered, put_packet}
 
 -- the router's ports, in ascending order
 abbrev pub ports_of : AtPorts → List ℕ
@@ -25,7 +24,7 @@ watched r = record r { interfaces = fold (watched_at r.tick) r.interfaces (ports
 
 -- 2. in order, each LSA that reaches the age 3,600 is set to it and flooded on all ports
 unfoldable pub ended : ℕ → Router → Router
-ended full r = fold (λ s (key : LsaKey). flooded_on full key s) (record r { db = aged r.tick r.db }) (ending r.tick r.db)
+ended full r = fold (flooded_by full) (record r { db = aged r.tick r.db }) (ending r.tick r.db)
 
 -- 3. at every tenth tick a Hello goes out on each up port
 unfoldable pub greeting_at : ℕ → Router → ℕ → Router

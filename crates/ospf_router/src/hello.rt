@@ -36,7 +36,8 @@ pub fn hello_to(alloc: Global, neighbour: Neighbour) -> Result<Hello, AllocError
 #[tactic(auto, unfolding(crate::specs::Hellos::with_other))]
 fn drop_other(interfaces: &mut Interfaces, port: u8, from: u32)
     requires { port < length interfaces.old.ports }
-    ensures { interfaces.new ≡ with_other port from interfaces.old }
+    ensures state { interfaces.new ≡ with_other port from interfaces.old }
+    ensures count { length interfaces.new.ports ≡ length interfaces.old.ports }
 {
     if interfaces.neighbour(port).is_other(from) {
         interfaces.lower(port);

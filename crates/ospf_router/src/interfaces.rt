@@ -2,6 +2,7 @@
 //! (RFC 2328 sections 9 and 10).
 
 ghost use Rattle.std.specs.Prelude.{◌≡◌, ◌↔◌, ◌+◌, ◌≤◌, ◌<◌, IsTrue, IfOk, OnOk, length, map};
+ghost use Rattle.std.specs.Map.{keys_of};
 ghost use Rattle.dn_guest.specs.Ports.{with_up};
 ghost use Rattle.ospf_flood.specs.Lists.{due, list_of, off_all};
 ghost use Rattle.ospf_flood.specs.Flooding.{flooded, state};
@@ -81,6 +82,13 @@ fn with_up(ports: u16, port: u8) -> u16
     } else {
         ports
     }
+}
+
+/// Whether both are the same ports.
+fn same_ports(ports: &[Port], others: &[Port]) -> bool
+    ensures { IsTrue result ↔ (ports.now ≡ others.now) }
+{
+    ports == others
 }
 
 impl Interfaces {
@@ -195,6 +203,7 @@ impl Interfaces {
     }
 
     /// Whether an LSA stands on some list.
+    #[tactic(auto, unfolding(crate::specs::Interfaces::is_listed))]
     pub fn is_listed(&self, key: &LsaKey) -> bool
         ensures { result ≡ is_listed key.now self.now }
     {
@@ -212,6 +221,14 @@ impl Interfaces {
         ensures { IfOk result (λ keys. keys.items ≡ due now (list_of self.now.lists port)) }
     {
         self.lists.due(port, now)
+    }
+
+    /// The LSAs on a port's list, in ascending order.
+    pub fn listed(&self, port: u8) -> Result<Vec<LsaKey>, AllocError>
+        requires { port < length self.now.ports }
+        ensures { IfOk result (λ keys. keys.items ≡ keys_of (list_of self.now.lists port)) }
+    {
+        self.lists.keys(port)
     }
 
     /// Floods an LSA of the database on the ports of a mask: `ospf_flood::flood` on these lists.
@@ -261,6 +278,6 @@ impl Interfaces {
     pub fn same(&self, other: &Interfaces) -> bool
         ensures { IsTrue result ↔ (self.now ≡ other.now) }
     {
-        self.ports == other.ports && self.lists.same(&other.lists)
+        same_ports(self.ports.as_slice(), other.ports.as_slice()) && self.lists.same(&other.lists)
     }
 }

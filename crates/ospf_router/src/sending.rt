@@ -1,8 +1,8 @@
 //! What a router sends (RFC 2328 section 13.3).
 
-ghost use Rattle.std.specs.Prelude.{◌≡◌, ◌+◌, ◌<◌, OnOk, length};
+ghost use Rattle.std.specs.Prelude.{◌≡◌, ◌+◌, ◌<◌, OnOk, fold, length};
 ghost use Rattle.ospf_wire.specs.Packets.{IsEncodable};
-ghost use Rattle.ospf_router.specs.Sending.{flooded_on, noted_at, offered, put_packet, putting};
+ghost use Rattle.ospf_router.specs.Sending.{flooded_by, flooded_on, noted_at, offered, put_packet, putting};
 ghost use Rattle.ospf_router.specs.Updates.{update_on, updates_on};
 
 use crate::router::Router;
@@ -46,11 +46,26 @@ impl Router {
         self.put_update(alloc, mask, copy)
     }
 
+    /// Floods these LSAs in order on the ports of the mask.
+    pub fn flood_each(
+        &mut self,
+        alloc: Global,
+        mask: u16,
+        keys: &[LsaKey],
+    ) -> Result<(), AllocError>
+        ensures { OnOk result (self.new ≡ fold (flooded_by mask) self.old keys.now) }
+    {
+        for key in keys {
+            self.flood(alloc, mask, key)?;
+        }
+        Ok(())
+    }
+
     /// Puts an LSA on a port's list and notes it as sent, both at this tick.
     #[tactic(auto, unfolding(crate::specs::Sending::noted_at))]
     fn note_at(&mut self, port: u8, key: &LsaKey) -> Result<(), AllocError>
         requires { port < length self.old.interfaces.ports }
-        ensures state { OnOk result (self.new ≡ noted_at port key.now self.old) }
+        ensures state { OnOk result (self.new ≡ noted_at port self.old key.now) }
         ensures count { OnOk result (length self.new.interfaces.ports ≡ length self.old.interfaces.ports) }
     {
         let now = self.now();

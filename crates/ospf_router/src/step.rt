@@ -1,14 +1,17 @@
 //! The step by cases on the input.
 
-ghost use Rattle.std.specs.Prelude.{◌≡◌, ◌<◌, OnOk, length};
+ghost use Rattle.std.specs.Prelude.{◌≡◌, ◌<◌, OnOk, false, length};
 ghost use Rattle.ospf_wire.specs.Packets.{IsEncodable};
-ghost use Rattle.ospf_router.specs.Step.{IsTaken, body_taken, handled, is_from_full, message, port_down, stepped};
+ghost use Rattle.ospf_router.specs.Step.{IsTaken, body_taken, handled, is_from_full, is_passed_over, message, next, port_down, stepped};
 
 use crate::command::command;
 use crate::router::Router;
 use dn_guest::Input;
 use ospf_wire::{Body, Packet, decode};
 use std::alloc::{AllocError, Global};
+
+/// The last tick that is taken.
+const LAST_TICK: u32 = 65_535;
 
 impl Router {
     /// Whether a packet of this router id is from the Full neighbour at the port.
@@ -96,13 +99,36 @@ impl Router {
         Ok(())
     }
 
-    /// A step.
+    /// Whether the input is a tick before the last one, or past 65,535.
+    fn passes_over(&self, input: &Input) -> bool
+        ensures test { result ≡ is_passed_over self.now.tick input.now }
+        ensures taken { result ≡ false → IsTaken input.now }
+    {
+        match input {
+            Input::Tick(group) => *group < u32::from(self.tick) || LAST_TICK < *group,
+            _ => false,
+        }
+    }
+
+    /// A step that isn't passed over.
     #[tactic(auto, unfolding(crate::specs::Step::stepped))]
-    pub fn step(&mut self, alloc: Global, ports: u16, input: &Input) -> Result<(), AllocError>
+    fn run(&mut self, alloc: Global, ports: u16, input: &Input) -> Result<(), AllocError>
         requires { IsTaken input.now }
         ensures { OnOk result (self.new ≡ stepped ports input.now self.old) }
     {
         self.handle(alloc, ports, input)?;
         self.finish(alloc, ports)
+    }
+
+    /// A step: the state changes, and what is put out stands behind what stood in `out`. A tick before the
+    /// last one, or past 65,535, does nothing. After `NoMemory` nothing is said of the router.
+    #[tactic(auto, unfolding(crate::specs::Step::next))]
+    pub fn step(&mut self, alloc: Global, ports: u16, input: &Input) -> Result<(), AllocError>
+        ensures { OnOk result (self.new ≡ next ports input.now self.old) }
+    {
+        if self.passes_over(input) {
+            return Ok(());
+        }
+        self.run(alloc, ports, input)
     }
 }

@@ -47,10 +47,7 @@ impl Router {
     {
         let now = self.now();
         let keys = self.db.tick(now)?;
-        for key in &keys {
-            self.flood(alloc, full, key)?;
-        }
-        Ok(())
+        self.flood_each(alloc, full, &keys)
     }
 
     /// A Hello on a port, if it is up.

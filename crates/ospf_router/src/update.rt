@@ -37,6 +37,7 @@ impl Router {
         requires port { port < length self.old.interfaces.ports }
         requires length { lsa.now.head.length ≡ 20 + length lsa.now.body }
         ensures step { IfOk result (λ step. step ≡ judged port self.old lsa.now) }
+        ensures count { OnOk result (length self.new.interfaces.ports ≡ length self.old.interfaces.ports) }
         ensures kept { OnOk result (self.new ≡ kept_by full port lsa.now self.old) }
     {
         let (own, now) = (self.id(), self.now());
@@ -73,7 +74,8 @@ impl Router {
         lsa: &Lsa,
         step: Step,
     ) -> Result<(), AllocError>
-        ensures { OnOk result (self.new ≡ answered full port lsa.now step self.old) }
+        ensures state { OnOk result (self.new ≡ answered full port lsa.now step self.old) }
+        ensures count { OnOk result (length self.new.interfaces.ports ≡ length self.old.interfaces.ports) }
     {
         match step.verdict {
             Verdict::Installed => self.spread(alloc, full, port, step.flush, lsa),
