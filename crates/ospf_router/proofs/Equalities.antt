@@ -1,5 +1,5 @@
 -- What `==` of ports and of networks says: they are equal.
-use Rattle.std.proofs.Common.{◌≡◌, ℕ, Bool, true, false, ◌&&◌, refl, ap}
+use Rattle.std.proofs.Common.{◌≡◌, ℕ, Bool, true, false, ◌&&◌, List, refl, ap}
 use Rattle.std.specs.Prelude.{nat_eq}
 use Rattle.std.specs.Bool.{Decides}
 use Rattle.std.proofs.lemmas.Bool.{both_ways}
@@ -11,6 +11,8 @@ use Rattle.ospf_router.specs.declared.interfaces.Port.{Port}
 use Rattle.ospf_router.specs.contracts.neighbour.HeardPartialEq.TheImpl as heards
 use Rattle.ospf_router.specs.contracts.neighbour.NeighbourPartialEq.TheImpl as neighbours
 use Rattle.ospf_router.specs.contracts.interfaces.PortPartialEq.TheImpl as ports
+use Rattle.ospf_flood.specs.Lists.{OnPorts}
+use Rattle.ospf_router.specs.Interfaces.{at_ports}
 use Rattle.ospf_router.specs.Prefixes.{Network}
 
 -- two tests in a row decide both facts
@@ -47,3 +49,6 @@ pub ports_decide : (a b : Port) → Decides (ports.ghosts.eq a b) (a ≡ b)
 ports_decide a b =
     along _ (λ h. λ i. record { cost = h.0 i; neighbour = h.1 i }) (λ e. (ap (λ (k : Port). k.cost) e, ap (λ (k : Port). k.neighbour) e))
     (and_decides _ _ (Decides-eqb a.cost b.cost) (neighbours_decide a.neighbour b.neighbour))
+
+pub same_at_ports : (ps qs : List Port) (ls ms : OnPorts) → ps ≡ qs → ls ≡ ms → at_ports ps ls ≡ at_ports qs ms
+same_at_ports ps qs ls ms p l = λ i. record { ports = p i; lists = l i }

@@ -1,6 +1,10 @@
 -- How many links there are.
-use Rattle.std.proofs.Common.{◌≡◌, ℕ, Bool, true, false, cond, suc, ◌+◌, ◌*◌, ◌≤◌, List, [], ◌∷◌, ◌++◌, length, arith, length-append}
+use Rattle.std.proofs.Common.{◌≡◌, ℕ, Bool, true, false, cond, suc, ◌+◌, ◌*◌, ◌≤◌, List, [], ◌∷◌, ◌++◌, length, ap, arith, length-append}
 use Rattle.std.specs.Prelude.{sum_by}
+use Rattle.std.proofs.lemmas.List.Sums.{sum_by-cons}
+use Rattle.ospf_wire.specs.declared.packet.Body.{Body}
+use Rattle.ospf_wire.specs.declared.packet.Body.TheVariants as body
+use Rattle.ospf_wire.specs.Packets.{body_len}
 use Rattle.ospf_wire.specs.declared.lsa.Lsa.{Lsa}
 use Rattle.ospf_wire.specs.declared.router_lsa.RouterLink.{RouterLink}
 use Rattle.dn_guest.specs.Ports.{is_up}
@@ -31,4 +35,12 @@ pub few_lsas : (ls : List Lsa) → 20 * length ls ≤ sum_by (λ l. 20 + length 
 few_lsas [] = omega arith
 few_lsas (l ∷ ls) =
     let more = few_lsas ls in
+    let all = sum_by-cons (λ (x : Lsa). 20 + length x.body) l ls in
+    omega arith
+
+-- so the headers of all of a packet's LSAs have room in one packet
+pub few_headers : (b : Body) (ls : List Lsa) → b ≡ body.Update ls → 24 + body_len b ≤ 65535 → 24 + 20 * length ls ≤ 65535
+few_headers b ls is room =
+    let same = ap body_len is in
+    let few = few_lsas ls in
     omega arith

@@ -7,7 +7,7 @@ use Rattle.std.specs.declared.cmp.Ordering.{Ordering}
 use Rattle.std.specs.declared.cmp.Ordering.TheVariants.{Less, Equal, Greater}
 use Rattle.std.specs.Ordering.{match_ordering}
 use Rattle.std.proofs.lemmas.Bool.Decides.{nat_tests}
-use Rattle.ospf_router.specs.Prefixes.{AreNetworks, Network, Networks, has_room, network_cmp}
+use Rattle.ospf_router.specs.Prefixes.{AreNetworks, Network, Networks, has_room, is_network, network_cmp}
 
 -- a network that was there, or came where there was room
 pub room_left : (ns : Networks) (n : Network) (old : Option ℕ) (m : ℕ) → has_room ns n ≡ true → old ≡ lookup (is_at (network_cmp n)) ns → length ns ≤ 32
@@ -35,3 +35,7 @@ left false e ns rest old all more = (old, more)
 pub networks_without : (ns : Networks) (test : Network → Bool) → AreNetworks ns → AreNetworks (remove_entry test ns)
 networks_without [] test all = tt
 networks_without (e ∷ ns) test all = left (test e.0) e ns (remove_entry test ns) all.0 all.1 (networks_without ns test all.1)
+
+-- a network has a length of at most 32
+pub few_bits : (address len : ℕ) → is_network address len ≡ true → len ≤ 32
+few_bits address len valid = grind (arith, nat_tests)
