@@ -44,5 +44,5 @@ unfoldable pub greeted_by : ℕ → ℕ → Hello → Router → Router
 greeted_by port from h r =
     if is_accepted r from h
     then (let s : Router = record r { interfaces = with_other port from r.interfaces } in
-      if list_any (λ id. id == id_of r) h.neighbours then two_way port from s else one_way port from s)
+    if list_any (λ id. id == id_of r) h.neighbours then two_way port from s else one_way port from s)
     else r

@@ -47,3 +47,5 @@ pub use std::alloc::AllocError as NoMemory;
 
 #[cfg(test)]
 mod tests;
+#[cfg(test)]
+mod turns;

@@ -24,6 +24,7 @@ const REFRESH_AGE: u16 = 1_800;
 
 /// The type of a link to a neighbour, and that of a stub network (RFC 2328 appendix A.4.2).
 const POINT_TO_POINT: u8 = 1;
+
 const STUB: u8 = 3;
 
 /// The name of a router's own LSA.
@@ -38,11 +39,7 @@ fn own_key(router: u32) -> LsaKey
 }
 
 /// Appends the link to a Full neighbour.
-fn push_link(
-    links: &mut Vec<RouterLink>,
-    number: u8,
-    port: Port,
-) -> Result<(), AllocError>
+fn push_link(links: &mut Vec<RouterLink>, number: u8, port: Port) -> Result<(), AllocError>
     ensures { OnOk result (links.new.items ≡ links.old.items ++ link_to number port.cost port.neighbour) }
 {
     if let Neighbour::Full(heard) = port.neighbour {
@@ -85,10 +82,7 @@ fn mask_of(len: u8) -> u32
 }
 
 /// Appends the stub links of the networks.
-fn push_stubs(
-    links: &mut Vec<RouterLink>,
-    networks: &[((u32, u8), u16)],
-) -> Result<(), AllocError>
+fn push_stubs(links: &mut Vec<RouterLink>, networks: &[((u32, u8), u16)]) -> Result<(), AllocError>
     requires { AreNetworks networks.now }
     ensures { OnOk result (links.new.items ≡ links.old.items ++ map stub_of networks.now) }
 {
@@ -119,9 +113,7 @@ fn is_outdated(now: u32, wanted: &Bytes, own: Option<&Kept>) -> bool
 {
     match own {
         None => true,
-        Some(kept) => {
-            kept.foreign || REFRESH_AGE <= kept.age(now) || kept.lsa.body != *wanted
-        }
+        Some(kept) => { kept.foreign || REFRESH_AGE <= kept.age(now) || kept.lsa.body != *wanted }
     }
 }
 

@@ -110,12 +110,7 @@ impl Router {
 
     /// Puts out one Acknowledgement with these headers, if there are any.
     #[tactic(auto, unfolding(crate::specs::Receiving::acknowledged))]
-    fn put_acks(
-        &mut self,
-        alloc: Global,
-        port: u8,
-        acks: Vec<LsaHeader>,
-    ) -> Result<(), AllocError>
+    fn put_acks(&mut self, alloc: Global, port: u8, acks: Vec<LsaHeader>) -> Result<(), AllocError>
         requires { 24 + 20 * length acks.items ≤ 65535 }
         ensures { OnOk result (self.new ≡ acknowledged port acks.items self.old) }
     {
@@ -149,11 +144,7 @@ impl Router {
 }
 
 /// Notes the header for the acknowledgement, where the verdict says so.
-fn acknowledge(
-    acks: &mut Vec<LsaHeader>,
-    verdict: Verdict,
-    lsa: &Lsa,
-) -> Result<(), AllocError>
+fn acknowledge(acks: &mut Vec<LsaHeader>, verdict: Verdict, lsa: &Lsa) -> Result<(), AllocError>
     ensures { OnOk result (acks.new.items ≡ acks.old.items ++ acks_by lsa.now verdict) }
 {
     if verdict == Verdict::Acked || verdict == Verdict::Installed {

@@ -81,12 +81,7 @@ pub fn copy_of(db: &Lsdb, key: &LsaKey, now: u32) -> Result<Option<Lsa>, AllocEr
 }
 
 /// Puts out these bytes on each port of the mask, in ascending order.
-fn put_copies(
-    alloc: Global,
-    mask: u16,
-    bytes: &Bytes,
-    out: &mut Outbox,
-) -> Result<(), AllocError>
+fn put_copies(alloc: Global, mask: u16, bytes: &Bytes, out: &mut Outbox) -> Result<(), AllocError>
     ensures { OnOk result (out.new ≡ out.old ++ copies mask bytes.now) }
 {
     for port in 0..PORTS {
@@ -137,12 +132,7 @@ pub fn put_update(
 }
 
 /// The copies of these LSAs, in their order.
-fn copies_of(
-    alloc: Global,
-    db: &Lsdb,
-    keys: &[LsaKey],
-    now: u32,
-) -> Result<Vec<Lsa>, AllocError>
+fn copies_of(alloc: Global, db: &Lsdb, keys: &[LsaKey], now: u32) -> Result<Vec<Lsa>, AllocError>
     ensures { IfOk result (λ copies. copies.items ≡ filter_map (copy_of now db.now) keys.now) }
 {
     let mut copies = Vec::new(alloc);
