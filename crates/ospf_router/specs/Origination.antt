@@ -11,13 +11,12 @@ use Rattle.ospf_lsdb.specs.Keys.{own_key}
 use Rattle.ospf_lsdb.specs.Kept.{age_of}
 use Rattle.ospf_lsdb.specs.Database.{Database, gone, kept_at, originated, seq_after, without}
 use Rattle.ospf_flood.specs.Lists.{off_all}
-use Rattle.ospf_spf.specs.Stubs.{mask_of}
 use Rattle.ospf_router.specs.declared.neighbour.Neighbour.{Neighbour}
 use Rattle.ospf_router.specs.declared.neighbour.Neighbour.TheVariants.{Down, Init, Full}
 use Rattle.ospf_router.specs.declared.interfaces.Port.{Port}
 use Rattle.ospf_router.specs.declared.router.Router.{Router}
 use Rattle.ospf_router.specs.Interfaces.{AtPorts, full_mask, is_listed}
-use Rattle.ospf_router.specs.Prefixes.{Network, Networks}
+use Rattle.ospf_router.specs.Prefixes.{Network, Networks, mask_of}
 use Rattle.ospf_router.specs.State.{id_of}
 use Rattle.ospf_router.specs.Sending.{flooded_on}
 

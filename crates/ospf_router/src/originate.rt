@@ -3,9 +3,8 @@
 ghost use Rattle.std.specs.Prelude.{◌≡◌, ◌+◌, ◌<◌, ◌≤◌, ◌++◌, IfOk, OnOk, length, map, fold, option_copied};
 ghost use Rattle.ospf_lsdb.specs.Database.{gone};
 ghost use Rattle.ospf_lsdb.specs.Keys.{own_key};
-ghost use Rattle.ospf_spf.specs.Stubs.{mask_of};
 ghost use Rattle.ospf_router.specs.Interfaces.{full_mask};
-ghost use Rattle.ospf_router.specs.Prefixes.{AreNetworks};
+ghost use Rattle.ospf_router.specs.Prefixes.{AreNetworks, mask_of};
 ghost use Rattle.ospf_router.specs.Origination.{advertised, finished, has_next, is_outdated, link_to, links_from, may_originate, removed, removed_one, renewed, stub_of, wanted_body, wanted_links};
 
 use crate::interfaces::{Interfaces, Port};
