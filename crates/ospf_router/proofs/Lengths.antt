@@ -8,9 +8,9 @@ use Rattle.ospf_lsdb.specs.Keys.{key_of}
 use Rattle.ospf_flood.specs.declared.table.Verdict.{Verdict}
 use Rattle.ospf_flood.specs.declared.table.Verdict.TheVariants.{Discarded, Acked, Installed, SentBack, Implied}
 use Rattle.ospf_flood.specs.Lists.{OnPorts, list_of, off, off_all}
-use Rattle.ospf_flood.specs.Flooding.{State, flooded, put_from, put_on}
+use Rattle.ospf_flood.specs.Flooding.{State, flooded, put_from}
 use Rattle.ospf_flood.specs.Table.{verdict_of}
-use Rattle.ospf_flood.specs.Receiving.{after, installed, is_stray, received, spread}
+use Rattle.ospf_flood.specs.Receiving.{after, is_stray, received, spread}
 
 pub length-put_from : (p ports tick : ℕ) (key : LsaKey) (ls : OnPorts) → length (put_from p ports key tick ls) ≡ length ls
 length-put_from p ports tick key [] = refl

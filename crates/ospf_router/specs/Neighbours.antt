@@ -1,5 +1,5 @@
 -- The neighbour at a port (RFC 2328 section 10): of its states the guest has Down, Init and Full.
-use Rattle.std.specs.Prelude.{◌+◌, ◌==◌, ℕ, Bool, true, false, not, ◌&&◌, nat_le, List, [], ◌∷◌}
+use Rattle.std.specs.Prelude.{◌+◌, ◌==◌, ℕ, Bool, true, false, not, nat_le, List, [], ◌∷◌}
 use Rattle.ospf_router.specs.declared.neighbour.Heard.{Heard}
 use Rattle.ospf_router.specs.declared.neighbour.Neighbour.{Neighbour}
 use Rattle.ospf_router.specs.declared.neighbour.Neighbour.TheVariants.{Down, Init, Full}

@@ -1,6 +1,6 @@
 -- The end of a step: the router's own LSA is originated anew where it has to be, and what is gone is removed (RFC 2328
 -- sections 12.4 and 14).
-use Rattle.std.specs.Prelude.{ℕ, ◌+◌, ◌==◌, ◌&&◌, ◌||◌, Bool, true, false, not, nat_le, nat_lt, if◌then◌else◌, List, [], ◌∷◌, ◌++◌, map, fold, Option, Some, None, is_some, nat_eq}
+use Rattle.std.specs.Prelude.{ℕ, ◌+◌, ◌&&◌, ◌||◌, Bool, true, not, nat_le, if◌then◌else◌, List, [], ◌∷◌, ◌++◌, map, fold, Option, Some, None, is_some, nat_eq}
 use Rattle.std.specs.Cmp.Lexicographic.{pointwise}
 use Rattle.dn_guest.specs.Ports.{is_up}
 use Rattle.ospf_wire.specs.declared.router_lsa.RouterLink.{RouterLink}
@@ -16,7 +16,7 @@ use Rattle.ospf_router.specs.declared.neighbour.Neighbour.TheVariants.{Down, Ini
 use Rattle.ospf_router.specs.declared.interfaces.Port.{Port}
 use Rattle.ospf_router.specs.declared.router.Router.{Router}
 use Rattle.ospf_router.specs.Interfaces.{AtPorts, full_mask, is_listed}
-use Rattle.ospf_router.specs.Prefixes.{Network, Networks, mask_of}
+use Rattle.ospf_router.specs.Prefixes.{Network, mask_of}
 use Rattle.ospf_router.specs.State.{id_of}
 use Rattle.ospf_router.specs.Sending.{flooded_on}
 

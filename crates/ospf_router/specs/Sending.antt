@@ -1,5 +1,5 @@
 -- What a router sends (RFC 2328 section 13.3): the router after it, with what it has put out.
-use Rattle.std.specs.Prelude.{ℕ, if◌then◌else◌, List, [], ◌∷◌, ◌++◌, fold}
+use Rattle.std.specs.Prelude.{ℕ, List, [], ◌∷◌, ◌++◌, fold}
 use Rattle.dn_guest.specs.declared.outbox.Output.{Output}
 use Rattle.ospf_wire.specs.declared.packet.Body.{Body}
 use Rattle.ospf_lsdb.specs.declared.key.LsaKey.{LsaKey}

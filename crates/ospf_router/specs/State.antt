@@ -1,6 +1,5 @@
 -- The state of an OSPF router.
 use Rattle.std.specs.Prelude.{ℕ, ◌+◌, List, [], fold, Option, None}
-use Rattle.dn_guest.specs.declared.outbox.Output.{Output}
 use Rattle.ospf_lsdb.specs.Database.{Database}
 use Rattle.ospf_router.specs.declared.router.Router.{Router}
 use Rattle.ospf_router.specs.Interfaces.{AtPorts, opening_ports}

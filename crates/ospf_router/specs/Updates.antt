@@ -8,7 +8,6 @@ use Rattle.ospf_wire.specs.declared.packet.Body.{Body}
 use Rattle.ospf_wire.specs.declared.packet.Body.TheVariants as body
 use Rattle.ospf_wire.specs.Packets.{packet_bytes}
 use Rattle.ospf_lsdb.specs.declared.key.LsaKey.{LsaKey}
-use Rattle.ospf_lsdb.specs.declared.kept.Kept.{Kept}
 use Rattle.ospf_lsdb.specs.Kept.{age_of}
 use Rattle.ospf_lsdb.specs.Database.{Database, kept_at}
 

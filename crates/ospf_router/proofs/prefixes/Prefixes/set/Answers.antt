@@ -1,6 +1,5 @@
-use Rattle.std.proofs.Common.{◌≡◌, ◌≤◌, true, subst, sym, ap, ◌∙◌, length, arith}
-use Rattle.std.specs.Prelude.{nat_le}
-use Rattle.ospf_router.specs.Prefixes.{AreNetworks, Network, Networks, has_room, is_network, network_cmp}
+use Rattle.std.proofs.Common.{◌≡◌, ◌≤◌, true, subst, sym, ap, ◌∙◌, length}
+use Rattle.ospf_router.specs.Prefixes.{AreNetworks, Network, Networks, has_room, is_network}
 use Rattle.ospf_router.proofs.PrefixLaws.{few_bits, networks_with, room_left}
 use Rattle.ospf_router.proofs.prefixes.Prefixes.set.Goals as goal
 
