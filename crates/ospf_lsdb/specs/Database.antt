@@ -8,7 +8,7 @@ use Rattle.ospf_wire.specs.Fletcher.{ls_checksum, with_sum}
 use Rattle.ospf_lsdb.specs.declared.key.LsaKey.{LsaKey}
 use Rattle.ospf_lsdb.specs.declared.kept.Kept.{Kept}
 use Rattle.ospf_lsdb.specs.Keys.{key_cmp, key_of, own_key}
-use Rattle.ospf_lsdb.specs.Kept.{fresh, reaches_end, at_end}
+use Rattle.ospf_lsdb.specs.Kept.{age_of, fresh, reaches_end, at_end}
 
 abbrev pub Database : Type 0
 Database = List (LsaKey × Kept)
@@ -43,6 +43,10 @@ ending now db = keys_of (filter (λ e. reaches_end now e.1) db)
 -- these have the age 3,600 from now on
 abbrev pub aged : ℕ → Database → Database
 aged now db = map (λ e. (e.0, if reaches_end now e.1 then at_end now e.1 else e.1)) db
+
+-- the LSAs whose age is 3,600, in order
+abbrev pub gone : ℕ → Database → List LsaKey
+gone now db = keys_of (filter (λ e. age_of now e.1 == 3600) db)
 
 -- ---- origination (RFC 2328 sections 12.1.6 and 12.4)
 

@@ -1,9 +1,10 @@
 //! Aging (RFC 2328 section 14).
 
 ghost use Rattle.std.specs.Prelude.{◌≡◌, IfOk};
-ghost use Rattle.ospf_lsdb.specs.Database.{aged, ending};
+ghost use Rattle.ospf_lsdb.specs.Database.{aged, ending, gone};
 
 use crate::{Kept, LsaKey};
+use ospf_wire::MAX_AGE;
 use std::alloc::{AllocError, Global};
 use std::collections::BTreeMap;
 
@@ -18,6 +19,23 @@ pub fn ending(
     let mut keys = Vec::new(alloc);
     for (key, one) in kept {
         if one.reaches_end(now) {
+            keys.push(*key)?;
+        }
+    }
+    Ok(keys)
+}
+
+/// The LSAs of the greatest age, in ascending order.
+pub fn gone(
+    alloc: Global,
+    kept: &BTreeMap<LsaKey, Kept>,
+    now: u32,
+) -> Result<Vec<LsaKey>, AllocError>
+    ensures { IfOk result (λ keys. keys.items ≡ gone now kept.now.entries) }
+{
+    let mut keys = Vec::new(alloc);
+    for (key, one) in kept {
+        if one.age(now) == MAX_AGE {
             keys.push(*key)?;
         }
     }

@@ -5,9 +5,9 @@ ghost use Rattle.std.specs.Map.{keys_of};
 ghost use Rattle.std.specs.List.Sorted.{IsStrictlySortedBy};
 ghost use Rattle.ospf_lsdb.specs.Keys.{key_cmp, key_of};
 ghost use Rattle.ospf_lsdb.specs.Kept.{age_of, at_end, fresh, sent_at};
-ghost use Rattle.ospf_lsdb.specs.Database.{AreNamed, aged, changed, ending, kept_at, with_kept, without};
+ghost use Rattle.ospf_lsdb.specs.Database.{AreNamed, aged, changed, ending, gone, kept_at, with_kept, without};
 
-use crate::aging::{age_all, ending};
+use crate::aging::{age_all, ending, gone};
 use crate::key::key_of;
 use crate::{Kept, LsaKey};
 use ospf_wire::Lsa;
@@ -113,6 +113,13 @@ impl Lsdb {
         ensures { self.new ≡ without self.old key.now }
     {
         let _gone = self.kept.remove(key);
+    }
+
+    /// The LSAs of the greatest age, in ascending order. It takes memory for these alone.
+    pub fn gone(&self, now: u32) -> Result<Vec<LsaKey>, AllocError>
+        ensures { IfOk result (λ keys. keys.items ≡ gone now self.now) }
+    {
+        gone(self.alloc, &self.kept, now)
     }
 
     /// How many LSAs there are.

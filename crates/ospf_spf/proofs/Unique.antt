@@ -61,11 +61,11 @@ not_before r s a b = elim a [
 not_itself : (r : Route) → IsBefore r r → ⊥
 not_itself r a = not_before r r a a
 
-tail_in : (r x : Route) (rs : List Route) → Contains (r ∷ rs) x → (r ≡ x) ⊎ Contains rs x
+pub tail_in : (r x : Route) (rs : List Route) → Contains (r ∷ rs) x → (r ≡ x) ⊎ Contains rs x
 tail_in r x rs (zero, l, e) = inl e
 tail_in r x rs (suc k, l, e) = inr (k, (let z : k < length rs = omega arith in z), e)
 
-in_tail : (r x : Route) (rs : List Route) → Contains rs x → Contains (r ∷ rs) x
+pub in_tail : (r x : Route) (rs : List Route) → Contains rs x → Contains (r ∷ rs) x
 in_tail r x rs i = (suc i.0, (let l : i.0 < length rs = i.1 in let z : suc i.0 < length (r ∷ rs) = omega arith in z), i.2)
 
 before_tail : (r x : Route) (rs : List Route) → AreAscending (r ∷ rs) → Contains rs x → IsBefore r x

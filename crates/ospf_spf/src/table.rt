@@ -1,9 +1,10 @@
 //! The routing table of a router (RFC 2328 section 16.1).
 
-ghost use Rattle.std.specs.Prelude.{◌≡◌, ℕ, ◌+◌, ◌<◌, ◌≤◌, length, IfOk, slice_index};
+ghost use Rattle.std.specs.Prelude.{◌≡◌, ℕ, ◌+◌, ◌^◌, ◌<◌, ◌≤◌, All, length, IfOk, slice_index};
 ghost use Rattle.ospf_spf.specs.declared.graph.Vertex.{Vertex};
 ghost use Rattle.ospf_spf.specs.Graph.{AreInOrder, graph_of};
 ghost use Rattle.ospf_spf.specs.Routes.{AreRoutes};
+ghost use Rattle.ospf_spf.specs.Table.{IsWide, table_of};
 ghost use Rattle.ospf_spf.specs.Hops.{ids_of};
 
 use crate::gather::gather;
@@ -44,14 +45,32 @@ fn routes_over(alloc: Global, graph: &[Vertex], root: u32) -> Result<Vec<Route>,
     routes_from(alloc, graph, place)
 }
 
+/// The fields of a route have the width of their types.
+fn see_width(route: Route)
+    ensures { IsWide (2 ^ 32) (2 ^ 32) route }
+{
+}
+
+/// The same of each of these; nothing is done.
+fn see_widths(routes: &[Route])
+    ensures { All (IsWide (2 ^ 32) (2 ^ 32)) routes.now }
+{
+    for route in routes {
+        see_width(*route);
+    }
+}
+
 /// The routing table of the router `root` at the tick `now`: each network that some way leads to, with
 /// the least cost, whether it is the root's own at that cost, and all ports by which a way of that cost
 /// begins, in ascending order of prefix and length. Where the root's own LSA is missing, too old or not
 /// well formed there is no route (RFC 2328 section 16.1).
 pub fn routes(alloc: Global, db: &Lsdb, root: u32, now: u32) -> Result<Vec<Route>, AllocError>
     requires { length db.now ≤ 65535 }
-    ensures { IfOk result (λ routes. AreRoutes (graph_of now db.now) root routes.items) }
+    ensures routes { IfOk result (λ routes. AreRoutes (graph_of now db.now) root routes.items) }
+    ensures table { IfOk result (λ routes. routes.items ≡ table_of (graph_of now db.now) root) }
 {
     let graph = vertices(alloc, db, now)?;
-    routes_over(alloc, &graph, root)
+    let table = routes_over(alloc, &graph, root)?;
+    see_widths(&table);
+    Ok(table)
 }

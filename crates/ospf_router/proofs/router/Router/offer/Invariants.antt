@@ -1,0 +1,10 @@
+use Rattle.std.proofs.Common.{◌≡◌, length, take}
+use Rattle.std.specs.Prelude.{fold}
+use Rattle.ospf_router.specs.Sending.{noted_at}
+use Rattle.ospf_router.proofs.router.Router.offer.Given as goal
+
+abbrev pub invariant-loop-key : goal.invariant-loop-key
+invariant-loop-key l = record {
+  far : l.self ≡ fold (noted_at l.port) l.initial.self (take l.key-index l.keys);
+  count : length l.self.interfaces.ports ≡ length l.fn.self.interfaces.ports;
+}

@@ -1,0 +1,13 @@
+pub mod Neighbours
+pub mod Interfaces
+pub mod Prefixes
+pub mod State
+pub mod Updates
+pub mod Sending
+pub mod Hellos
+pub mod Receiving
+pub mod Acknowledging
+pub mod Ticks
+pub mod Origination
+pub mod Commands
+pub mod Step
