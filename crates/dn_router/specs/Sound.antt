@@ -1,0 +1,30 @@
+-- What holds of a router's parts in every state.
+use Rattle.std.specs.Prelude.{◌≡◌, ℕ, ◌<◌, List, length}
+use Rattle.std.specs.List.{AllByRecursion, count_by}
+use Rattle.std.specs.List.Sorted.{IsSorted}
+use Rattle.dn_guest.specs.declared.node.Node.{Node}
+use Rattle.dn_guest.specs.Meaning.{Meaning}
+use Rattle.dn_model.specs.declared.event.Event.{Event}
+use Rattle.dn_model.specs.declared.key.Key.{Key}
+use Rattle.dn_model.specs.Order.{event_cmp}
+use Rattle.dn_model.specs.Settled.{below}
+use Rattle.dn_world.specs.World.{Part, stands}
+use Rattle.dn_world.specs.Runs.{IsPast, IsTidy}
+use Rattle.dn_router.specs.Replays.{nodes_over}
+
+-- an event that waits at the router is the router's, and isn't below the bound
+abbrev pub MayWait : ℕ → Key → Event → Type 0
+MayWait number bound e = (e.router ≡ number) × IsPast bound e.key
+
+pub record IsSound {S : Type 0} (guests : Meaning S) (number period : ℕ) (opening : Node S) (part : Part) (kept : List (ℕ × Node S)) (wrong committed : ℕ) (bound : Key) : Type 0 where
+  pub timed : 0 < period
+  pub tidy : IsTidy part
+  pub sorted : IsSorted event_cmp part.done
+  pub own : AllByRecursion (λ e. e.router ≡ number) part.done
+  pub todo : AllByRecursion (MayWait number bound) part.todo
+  pub voids : AllByRecursion (MayWait number bound) part.voids
+  -- a node is kept for each number of entries
+  pub kept : kept ≡ nodes_over guests 0 opening part.done
+  -- how many of voids were handled
+  pub wrong : wrong ≡ count_by (λ v. stands v part.done) part.voids
+  pub committed : committed ≡ length (below bound part.done)
