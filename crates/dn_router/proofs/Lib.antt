@@ -1,0 +1,3 @@
+pub mod Until
+pub mod Replays
+pub mod Network

@@ -3,6 +3,7 @@ use Rattle.std.specs.Prelude.{◌≡◌}
 use Rattle.dn_guest.specs.Meaning.{Meaning}
 use Rattle.dn_router.specs.declared.order.Applied.{Applied}
 use Rattle.dn_router.specs.declared.order.Applied.TheVariants.{Done, Stale}
+use Rattle.dn_world.specs.World.{Part}
 use Rattle.dn_router.specs.Orders.{Task}
 use Rattle.dn_router.specs.Routers.{Speculation, handled, emits_next, IsCurrent}
 
@@ -11,3 +12,8 @@ abbrev pub HasApplied : {S : Type 0} → Meaning S → Speculation S → Task S 
 HasApplied guests before task (Done events) after =
     IsCurrent guests before task × (after ≡ record before { part = handled before.part }) × (events.items ≡ emits_next guests before)
 HasApplied guests before task Stale after = (IsCurrent guests before task → ⊥) × (after ≡ before)
+
+-- where a call found no memory in the middle: the router has the same number and the same commits, and some part
+pub record HasLost {S : Type 0} (before after : Speculation S) : Type 0 where
+  pub part : Part
+  pub is : after ≡ record before { part = part }

@@ -104,7 +104,14 @@ pub(crate) fn are_and(events: &[Event], front: &[Event], last: &Event) -> bool
     ensures { IsTrue result ↔ (events.now ≡ front.now ++ last.now ∷ []) }
 {
     match events.split_last() {
-        Some((end, others)) => *end == *last && *others == *front,
+        Some((end, others)) => are_same(others, front) && *end == *last,
         None => false,
     }
+}
+
+/// Whether the events are these.
+fn are_same(events: &[Event], others: &[Event]) -> bool
+    ensures { IsTrue result ↔ (events.now ≡ others.now) }
+{
+    events == others
 }

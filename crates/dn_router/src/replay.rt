@@ -10,15 +10,15 @@ use std::alloc::Global;
 /// All events that the steps of these events emit, in order, beginning at this node.
 pub(crate) fn emitted_over<G: Guest>(
     alloc: Global,
-    node: Node<G>,
+    opening: Node<G>,
     timing: &Timing,
     ends: &[End],
     events: &[Event],
 ) -> Result<Vec<Event>, NoMemory>
     requires { 0 < timing.now.period }
-    ensures { IfOk result (λ emitted. emitted.items ≡ emitted_over G.meaning timing.now ends.now node events.now) }
+    ensures { IfOk result (λ emitted. emitted.items ≡ emitted_over G.meaning timing.now ends.now opening events.now) }
 {
-    let mut node = node;
+    let mut node = opening;
     let mut emitted = Vec::new(alloc);
     for event in events {
         let sent = node.take(alloc, &event.input)?;

@@ -1,6 +1,6 @@
 //! The router.
 
-ghost use Rattle.std.specs.Prelude.{ℕ, ◌≡◌, ◌<◌, ◌++◌, ◌↔◌, true, IsTrue, length, drop, map, slice_get, option_copied, IfOk, OnOk, OnErr};
+ghost use Rattle.std.specs.Prelude.{◌≡◌, ◌+◌, ◌<◌, ◌≤◌, [], ◌++◌, ◌↔◌, true, IsTrue, length, take, drop, map, slice_get, option_copied, IfOk, OnOk, OnErr};
 ghost use Rattle.std.specs.List.{AllByRecursion};
 ghost use Rattle.std.specs.List.Sorted.{IsSorted};
 ghost use Rattle.dn_model.specs.Order.{event_cmp};
@@ -8,14 +8,17 @@ ghost use Rattle.dn_model.specs.Settled.{below};
 ghost use Rattle.dn_world.specs.World.{no_part, key_of, is_behind, is_ready};
 ghost use Rattle.dn_world.specs.Steps.{arrived};
 ghost use Rattle.dn_world.specs.Runs.{IsPast};
-ghost use Rattle.dn_router.specs.Routers.{rolled_back, node_of, unsent, order_of};
-ghost use Rattle.dn_router.specs.Answers.{HasApplied};
+ghost use Rattle.dn_router.specs.Replays.{node_over, last_sent};
+ghost use Rattle.dn_router.specs.Routers.{handled, rolled_back, node_of, emits_next, unsent, order_of};
+ghost use Rattle.std.specs.Vec.{vec_len, vec_capacity};
+ghost use Rattle.dn_router.specs.Answers.{HasApplied, HasLost};
+ghost use Rattle.dn_router.specs.Sound.{recounted};
 
 use crate::history::{are_and, copies, copies_and, count_below, first_wrong, is_before_last, stands};
 use crate::order::{Applied, Order, Outcome};
 use crate::replay::emitted_over;
 use dn_ckpt::Shelf;
-use dn_guest::{Guest, NoMemory, Node};
+use dn_guest::{Guest, NoMemory, Node, Sent};
 use dn_model::{End, Event, Key, Row, Timing, emitted_by};
 use dn_queue::InQueue;
 use std::alloc::Global;
@@ -101,15 +104,9 @@ impl<G: Guest> Router<G> {
     {
         let handled = stands(self.done.as_slice(), &event);
         let before = self.queue.voids().len() as u64;
-        if plus {
-            self.queue.put(event)?;
-        } else {
-            self.queue.void(event)?;
-        }
+        arrive_in(&mut self.queue, plus, event)?;
         let after = self.queue.voids().len() as u64;
-        if handled {
-            self.wrong = self.wrong + after - before;
-        }
+        self.wrong = recount(self.wrong, handled, before, after);
         Ok(())
     }
 
@@ -166,6 +163,18 @@ impl<G: Guest> Router<G> {
             return Ok(Applied::Stale);
         }
         let (node, sent) = outcome.into_parts();
+        Ok(Applied::Done(self.handle(node, sent)?))
+    }
+
+    /// Handles the least event, with the node after it and its numbered outputs, and gives what it emits.
+    fn handle(&mut self, node: Node<G>, sent: Vec<Sent>) -> Result<Vec<Event>, NoMemory>
+        requires ready { is_ready self.old.part ≡ true }
+        requires node { node ≡ node_over G.meaning (node_of G.meaning self.old) (take 1 self.old.part.todo) }
+        requires sent { sent.items ≡ last_sent G.meaning (node_of G.meaning self.old) [] (take 1 self.old.part.todo) }
+        ensures part { OnOk result (self.new ≡ record self.old { part = handled self.old.part }) }
+        ensures events { IfOk result (λ events. events.items ≡ emits_next G.meaning self.old) }
+        ensures err { OnErr result (self.new ≡ self.old) }
+    {
         let least = match self.queue.least() {
             Some(least) => least,
             None => unreachable!(),
@@ -179,8 +188,8 @@ impl<G: Guest> Router<G> {
         )?;
         self.done.reserve(1)?;
         self.shelf.keep(self.done.len() as u64 + 1, node)?;
-        self.handle_least();
-        Ok(Applied::Done(events))
+        move_least(&mut self.queue, &mut self.done);
+        Ok(events)
     }
 
     /// Takes the entries off that were handled too early or ought not to have been handled, puts their events
@@ -190,6 +199,7 @@ impl<G: Guest> Router<G> {
         requires { is_behind self.old.part ≡ true }
         ensures part { OnOk result (self.new ≡ record self.old { part = rolled_back self.old.part }) }
         ensures unsent { IfOk result (λ events. events.items ≡ unsent G.meaning self.old) }
+        ensures err { OnErr result (HasLost self.old self.new) }
     {
         let place = first_wrong(self.done.as_slice(), &self.queue);
         let node = self.shelf.base_for(place as u64).1.fork(self.alloc)?;
@@ -282,16 +292,49 @@ impl<G: Guest> Router<G> {
             )
             && outcome.base.same(base)
     }
+}
 
-    /// Moves the least event to handle to the end of what was handled.
-    fn handle_least(&mut self) {
-        let event = match self.queue.take_least() {
-            Some(event) => event,
-            None => unreachable!(),
-        };
-        match self.done.push(event) {
-            Ok(()) => {}
-            Err(_) => unreachable!(),
-        }
+/// Moves the least event to handle to the end of what was handled, where there is room.
+fn move_least(queue: &mut InQueue, done: &mut Vec<Event>)
+    requires more { 0 < length queue.old.todo }
+    requires room { vec_len done.old + 1 ≤ vec_capacity done.old }
+    ensures queue { queue.new ≡ record queue.old { todo = drop 1 queue.old.todo } }
+    ensures done { done.new.items ≡ done.old.items ++ take 1 queue.old.todo }
+{
+    let event = match queue.take_least() {
+        Some(event) => event,
+        None => unreachable!(),
+    };
+    match done.push(event) {
+        Ok(()) => {}
+        Err(_) => unreachable!(),
+    }
+}
+
+/// The event or the unsend comes into the queue.
+fn arrive_in(queue: &mut InQueue, plus: bool, event: Event) -> Result<(), NoMemory>
+    ensures ok { OnOk result (queue.new ≡ arrived (record { plus = plus; event = event }) queue.old) }
+    ensures err { OnErr result (queue.new ≡ queue.old) }
+{
+    if plus {
+        queue.put(event)
+    } else {
+        queue.void(event)
+    }
+}
+
+/// How many unsends of handled events wait, where there were so many and one unsend has come or gone: an
+/// unsend of an event that was handled, or not.
+fn recount(wrong: u64, handled: bool, before: u64, after: u64) -> u64
+    requires some { handled ≡ true → after < before → 0 < wrong }
+    requires room { handled ≡ true → before < after → wrong < after }
+    ensures { result ≡ recounted wrong handled before after }
+{
+    if handled && before < after {
+        wrong + 1
+    } else if handled && after < before {
+        wrong - 1
+    } else {
+        wrong
     }
 }
