@@ -1,5 +1,5 @@
 -- What holds of a router's parts in every state.
-use Rattle.std.specs.Prelude.{◌≡◌, ℕ, ◌+◌, ◌-◌, ◌<◌, Bool, ◌&&◌, nat_lt, if◌then◌else◌, List, length, count_by}
+use Rattle.std.specs.Prelude.{◌≡◌, ℕ, ◌+◌, ◌-◌, ◌<◌, Bool, ◌&&◌, nat_lt, if◌then◌else◌, List, [], ◌∷◌, length}
 use Rattle.std.specs.List.{AllByRecursion}
 use Rattle.std.specs.List.Sorted.{IsSorted}
 use Rattle.dn_guest.specs.declared.node.Node.{Node}
@@ -14,7 +14,8 @@ use Rattle.dn_router.specs.Replays.{nodes_over}
 
 -- how many of voids were handled
 abbrev pub marked_in : List Event → List Event → ℕ
-marked_in done voids = count_by (λ v. stands v done) voids
+marked_in done [] = 0
+marked_in done (v ∷ vs) = (if stands v done then 1 else 0) + marked_in done vs
 
 -- the same count after one unsend has come or gone
 abbrev pub recounted : ℕ → Bool → ℕ → ℕ → ℕ

@@ -1,6 +1,6 @@
 //! Searches in the list of handled events, which is in order.
 
-ghost use Rattle.std.specs.Prelude.{Bool, ◌≡◌, ◌∷◌, [], ◌++◌, ◌||◌, ◌↔◌, length, IfOk, IsTrue};
+ghost use Rattle.std.specs.Prelude.{Bool, ◌≡◌, ◌≤◌, ◌∷◌, [], take, drop, ◌++◌, ◌||◌, ◌↔◌, length, IfOk, IsTrue};
 ghost use Rattle.dn_model.specs.declared.event.Event.{Event};
 ghost use Rattle.std.specs.List.Sorted.{IsSorted};
 ghost use Rattle.dn_model.specs.Order.{event_cmp};
@@ -34,7 +34,8 @@ pub(crate) fn stands(done: &[Event], event: &Event) -> bool
 /// How many events of the list are below the key. They stand in front.
 pub(crate) fn count_below(done: &[Event], key: &Key) -> usize
     requires { IsSorted event_cmp done.now }
-    ensures { result ≡ length (below key.now done.now) }
+    ensures within { result ≤ length done.now }
+    ensures front { below key.now done.now ≡ take result done.now }
 {
     done.partition_point(|event| event.key.cmp(key).is_lt())
 }
@@ -73,6 +74,23 @@ fn first_voided(done: &[Event], voids: &[Event], most: usize) -> usize
         }
     }
     place
+}
+
+/// The events from a place on, up to another.
+pub(crate) fn between(events: &[Event], from: usize, to: usize) -> &[Event]
+    requires start { from ≤ to }
+    requires end { to ≤ length events.now }
+    ensures { result.now ≡ drop from (take to events.now) }
+{
+    events.split_at(to).0.split_at(from).1
+}
+
+/// The events from a place on.
+pub(crate) fn rest(events: &[Event], from: usize) -> &[Event]
+    requires { from ≤ length events.now }
+    ensures { result.now ≡ drop from events.now }
+{
+    events.split_at(from).1
 }
 
 /// Copies of the events, and of one more.

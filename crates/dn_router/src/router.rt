@@ -14,7 +14,9 @@ ghost use Rattle.std.specs.Vec.{vec_len, vec_capacity};
 ghost use Rattle.dn_router.specs.Answers.{HasApplied, HasLost};
 ghost use Rattle.dn_router.specs.Sound.{recounted};
 
-use crate::history::{are_and, copies, copies_and, count_below, first_wrong, is_before_last, stands};
+use crate::history::{
+    are_and, between, copies, copies_and, count_below, first_wrong, is_before_last, rest, stands,
+};
 use crate::order::{Applied, Order, Outcome};
 use crate::replay::emitted_over;
 use dn_ckpt::Shelf;
@@ -141,7 +143,7 @@ impl<G: Guest> Router<G> {
             Some(least) => least,
             None => unreachable!(),
         };
-        let inputs = copies_and(self.alloc, &self.done[place as usize..], least)?;
+        let inputs = copies_and(self.alloc, rest(self.done.as_slice(), place as usize), least)?;
         Ok(Order {
             alloc: self.alloc,
             router: self.number,
@@ -208,7 +210,7 @@ impl<G: Guest> Router<G> {
             node,
             &self.timing,
             self.ends.as_slice(),
-            &self.done[place..],
+            rest(self.done.as_slice(), place),
         )?;
         let taken = self.done.split_off(place)?;
         self.shelf.cut(place as u64);
@@ -227,10 +229,8 @@ impl<G: Guest> Router<G> {
         ensures err { OnErr result (self.new ≡ self.old) }
     {
         let count = count_below(self.done.as_slice(), key);
-        let rows = copies(
-            self.alloc,
-            &self.done[self.committed as usize..count],
-        )?;
+        let fresh = between(self.done.as_slice(), self.committed as usize, count);
+        let rows = copies(self.alloc, fresh)?;
         self.committed = count as u64;
         self.bound = *key;
         Ok(rows)
@@ -287,7 +287,7 @@ impl<G: Guest> Router<G> {
         outcome.place == place
             && are_and(
                 outcome.inputs.as_slice(),
-                &self.done[place as usize..],
+                rest(self.done.as_slice(), place as usize),
                 least,
             )
             && outcome.base.same(base)
