@@ -5,3 +5,4 @@ pub mod Marks
 pub mod Rising
 pub mod Sound
 pub mod Answers
+pub mod Ordering

@@ -186,3 +186,7 @@ ready_not_behind p h = by_test (is_behind p) (λ k. absurd (false≢true (sym (s
 pub first_waits : (todo : List Event) → 0 < length todo → None ≡ slice_get todo 0 → ⊥
 first_waits [] l h = omega (arith, l)
 first_waits (e ∷ es) l h = cc
+
+pub behind_unready : (p : Part) → is_behind p ≡ true → false ≡ is_ready p
+unfolding is_ready
+behind_unready p h = sym (simp h)

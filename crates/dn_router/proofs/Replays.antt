@@ -160,3 +160,43 @@ module _ {S : Type 0} (guests : Meaning S) where
   pub emitted_end : (t : Timing) (ends : List End) (node : Node S) (emitted es : List Event) (i : ℕ) → length es ≤ i → emitted ++ emitted_over guests t ends node (drop i es) ≡ emitted
   emitted_end t ends node emitted es i l =
       ap (λ r. emitted ++ r) (ap (emitted_over guests t ends node) (none_from es i l) ∙ emitted_nothing t ends node) ∙ append-nil emitted
+
+  pub kept_nothing : (k : ℕ) (node : Node S) → nodes_over guests k node [] ≡ (k, node) ∷ []
+  unfolding nodes_over
+  kept_nothing k node = refl
+
+  -- the node that is kept for all of the events
+  pub kept_last : (node : Node S) (es : List Event) (p : ℕ) (kept : Kept S) (at : Node S) → p ≡ length es → kept ≡ nodes_over guests 0 node es → kept_at kept p ≡ Some at → at ≡ node_over guests node es
+  kept_last node es p kept at h is got =
+      let want = kept_node 0 node es (length es) p (omega (arith, h)) (omega arith) in
+      let same : Some at ≡ Some (node_over guests node (take (length es) es)) = sym got ∙ ap (λ k. kept_at k p) is ∙ want in
+      let here : at ≡ node_over guests node (take (length es) es) = cc in
+      here ∙ ap (node_over guests node) (all_of es)
+    where
+      all_of : (xs : List Event) → take (length xs) xs ≡ xs
+      all_of [] = refl
+      all_of (x ∷ xs) = ap (λ l. x ∷ l) (all_of xs)
+
+  -- the node that is kept for a front of them
+  pub kept_front : (node : Node S) (es : List Event) (p : ℕ) (kept : Kept S) (at : Node S) → p ≤ length es → kept ≡ nodes_over guests 0 node es → kept_at kept p ≡ Some at → at ≡ node_over guests node (take p es)
+  kept_front node es p kept at h is got =
+      let want = kept_node 0 node es p p (omega arith) h in
+      let same : Some at ≡ Some (node_over guests node (take p es)) = sym got ∙ ap (λ k. kept_at k p) is ∙ want in
+      cc
+
+  pub base_is : (node : Node S) (es : List Event) (p : ℕ) (kept : Kept S) → p ≤ length es → kept ≡ nodes_over guests 0 node es → base_place p kept ≡ p
+  base_is node es p kept h is = ap (base_place p) is ∙ kept_base 0 node es p p (omega arith) h
+
+  pub has_is : (node : Node S) (es : List Event) (p : ℕ) (kept : Kept S) → kept ≡ nodes_over guests 0 node es → HasBase p kept
+  has_is node es p kept is = subst (HasBase p) (sym is) (kept_has node es p)
+
+  -- what `base_for` gives for the place after all of the events, or after a front of them
+  pub base_last : (node : Node S) (es : List Event) (len : ℕ) (kept : Kept S) (place : ℕ) (at : Node S) → len ≡ length es → kept ≡ nodes_over guests 0 node es → place ≡ base_place len kept → kept_at kept place ≡ Some at → (place ≡ length es) × (at ≡ node_over guests node es)
+  base_last node es len kept place at l is p got =
+      let here : place ≡ len = p ∙ base_is node es len kept (omega (arith, l)) is in
+      (here ∙ l, kept_last node es place kept at (here ∙ l) is got)
+
+  pub base_front : (node : Node S) (es : List Event) (len : ℕ) (kept : Kept S) (place : ℕ) (at : Node S) → len ≤ length es → kept ≡ nodes_over guests 0 node es → place ≡ base_place len kept → kept_at kept place ≡ Some at → at ≡ node_over guests node (take len es)
+  base_front node es len kept place at l is p got =
+      let here : place ≡ len = p ∙ base_is node es len kept l is in
+      kept_front node es place kept at (omega (arith, here, l)) is got ∙ ap (λ n. node_over guests node (take n es)) here

@@ -18,7 +18,9 @@ use Rattle.dn_world.specs.Runs.{IsPast, IsTidy}
 use Rattle.dn_world.proofs.Parts.{same_is, same_itself, all_unmatched, all_since, all_until, until_since, waits_todo, waits_void}
 use Rattle.dn_world.proofs.Tidy.{todo_tidy, void_tidy}
 use Rattle.dn_router.specs.Replays.{node_over, nodes_over}
-use Rattle.dn_router.specs.Routers.{handled_first}
+use Rattle.dn_model.specs.declared.link.End.{End}
+use Rattle.dn_model.specs.declared.timing.Timing.{Timing}
+use Rattle.dn_router.specs.Routers.{Speculation}
 use Rattle.dn_router.specs.Sound.{IsSound, MayWait, marked_in}
 use Rattle.dn_router.proofs.Rising.{sorted_push, sorted_until, taken_past, below_past, none_handled}
 use Rattle.dn_router.proofs.Replays.{node_nothing}
@@ -198,3 +200,9 @@ module _ {S : Type 0} (guests : Meaning S) (number period : ℕ) (opening : Node
       moved : (es : List Event) → AllByRecursion (MayWait number bound) es → AllByRecursion (λ e. IsPast key e.key) es → AllByRecursion (MayWait number key) es
       moved [] a b = tt
       moved (e ∷ es) a b = ((a.0.0, b.0), moved es a.1 b.1)
+
+-- ---- a router by its parts
+
+abbrev pub seen : {S : Type 0} → ℕ → List End → Timing → Node S → Part → ℕ → Key → Speculation S
+seen number ends timing opening part committed bound =
+    record { number = number; ends = ends; timing = timing; opening = opening; part = part; committed = committed; bound = bound }

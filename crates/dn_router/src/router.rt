@@ -284,13 +284,14 @@ impl<G: Guest> Router<G> {
             Some(least) => least,
             None => unreachable!(),
         };
-        outcome.place == place
-            && are_and(
-                outcome.inputs.as_slice(),
-                rest(self.done.as_slice(), place as usize),
-                least,
-            )
-            && outcome.base.same(base)
+        if outcome.place != place {
+            return false;
+        }
+        let since = rest(self.done.as_slice(), place as usize);
+        if !are_and(outcome.inputs.as_slice(), since, least) {
+            return false;
+        }
+        outcome.base.same(base)
     }
 }
 
