@@ -6,3 +6,4 @@ pub mod Rising
 pub mod Sound
 pub mod Answers
 pub mod Ordering
+pub mod Rolling

@@ -1,5 +1,5 @@
 -- Lists of events that stay in order, and what of them is below a key.
-use Rattle.std.proofs.Common.{◌≡◌, ℕ, suc, ◌+◌, ◌<◌, ◌≤◌, Bool, true, false, List, [], ◌∷◌, ◌++◌, length, take, refl, sym, ap, ◌∙◌, subst, arith, append-nil}
+use Rattle.std.proofs.Common.{◌≡◌, ℕ, suc, ◌+◌, ◌<◌, ◌≤◌, Bool, true, false, List, [], ◌∷◌, ◌++◌, length, take, length-take, refl, sym, ap, ◌∙◌, subst, arith, append-nil}
 use Rattle.std.specs.List.{AllByRecursion, filter, list_any}
 use Rattle.std.specs.List.Sorted.{IsSorted}
 use Rattle.std.specs.Ordering.{is_lt, is_gt}
@@ -144,3 +144,8 @@ none_handled p = each p.voids (λ v h. h)
         (by_test (stands v (until (is_wrong p) p.done))
         (λ g. absurd (both_ways (stands v p.voids) (stands_all (λ e. stands e p.voids ≡ false) v (until (is_wrong p) p.done) g (stay_right p p.done)) (h v (stands_first v vs))))
         (λ g. g), each vs (λ x k. h x (stands_later x v vs k)))
+
+-- how many are below a key, where so many stand in front
+pub count_is : (key : Key) (seen done : List Event) (count : ℕ) → seen ≡ done → count ≤ length seen → below key seen ≡ take count seen → length (below key done) ≡ count
+count_is key seen done count same within front =
+    ap (λ l. length (below key l)) (sym same) ∙ ap length front ∙ (let n = length-take {A = Event} count seen in omega (arith, n, within))
