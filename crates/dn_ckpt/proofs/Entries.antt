@@ -19,10 +19,10 @@ use Rattle.dn_ckpt.specs.Shelves.{Kept, kept_at, kept_up_to, kept_from, base_pla
 
 -- ---- tests of numbers
 
-le_is : (n m : ℕ) → n ≤ m → nat_le n m ≡ true
+pub le_is : (n m : ℕ) → n ≤ m → nat_le n m ≡ true
 le_is n m h = by_test (nat_le n m) (λ g. g) (λ g. absurd (let k = leb-false n m g in omega (arith, k, h)))
 
-not_le : (n m : ℕ) → m < n → nat_le n m ≡ false
+pub not_le : (n m : ℕ) → m < n → nat_le n m ≡ false
 not_le n m h = by_test (nat_le n m) (λ g. absurd (let k = leb-true n m g in omega (arith, k, h))) (λ g. g)
 
 below_is : (n m : ℕ) → is_lt (nat_cmp n m) ≡ true → n < m

@@ -1,0 +1,202 @@
+-- Replays, and the nodes that are kept.
+use Rattle.std.proofs.Common.{◌≡◌, ℕ, zero, suc, ◌+◌, ◌-◌, ◌<◌, ◌≤◌, Bool, true, false, max, List, [], ◌∷◌, ◌++◌, length, get_or, take, drop, drop-cons, add-one, append-nil, append_assoc, refl, sym, ap, ◌∙◌, subst, arith}
+use Rattle.std.specs.Prelude.{Option, Some, None, nat_le, slice_get}
+use Rattle.std.specs.Ordering.{nat_cmp, is_eq, match_ordering, MatchOrdering}
+use Rattle.std.specs.declared.cmp.Ordering.{Ordering}
+use Rattle.std.specs.declared.cmp.Ordering.TheVariants.{Less, Equal, Greater}
+use Rattle.std.specs.Cmp.{nat_cmp_is}
+use Rattle.dn_guest.specs.declared.node.Node.{Node}
+use Rattle.dn_guest.specs.declared.node.Sent.{Sent}
+use Rattle.dn_guest.specs.Meaning.{Meaning}
+use Rattle.dn_guest.specs.Node.{node_after, node_sent}
+use Rattle.dn_model.specs.declared.event.Event.{Event}
+use Rattle.dn_model.specs.declared.link.End.{End}
+use Rattle.dn_model.specs.declared.timing.Timing.{Timing}
+use Rattle.dn_ckpt.specs.Shelves.{Kept, kept_at, kept_up_to, with_kept, base_place, HasBase}
+use Rattle.dn_ckpt.proofs.Entries.{le_is, not_le}
+use Rattle.dn_router.specs.Replays.{node_over, emitted_at, emitted_over, last_sent, nodes_over}
+
+-- the list from a place on: the element there and the rest
+rest_from : (es : List Event) (i : ℕ) (e : Event) → i < length es → e ≡ get_or es i e → drop i es ≡ e ∷ drop (i + 1) es
+rest_from es i e l is =
+    let n : drop (suc i) es ≡ drop (i + 1) es = rw add-one refl in
+    drop-cons es i e l ∙ (λ j. sym is j ∷ n j)
+
+pub none_from : (es : List Event) (i : ℕ) → length es ≤ i → drop i es ≡ []
+none_from [] zero l = refl
+none_from [] (suc i) l = refl
+none_from (e ∷ es) zero l = absurd (omega (arith, l))
+none_from (e ∷ es) (suc i) l = none_from es i (omega (arith, l))
+
+module _ {S : Type 0} (guests : Meaning S) where
+  pub node_append : (node : Node S) (xs ys : List Event) → node_over guests node (xs ++ ys) ≡ node_over guests (node_over guests node xs) ys
+  unfolding node_over
+  node_append node [] ys = refl
+  node_append node (x ∷ xs) ys = node_append (node_after guests node x.input) xs ys
+
+  pub node_more : (node : Node S) (xs : List Event) (e : Event) → node_over guests node (xs ++ e ∷ []) ≡ node_after guests (node_over guests node xs) e.input
+  unfolding node_over
+  node_more node [] e = refl
+  node_more node (x ∷ xs) e = node_more (node_after guests node x.input) xs e
+
+  pub node_nothing : (node : Node S) → node_over guests node [] ≡ node
+  unfolding node_over
+  node_nothing node = refl
+
+  -- ---- loops over the events
+
+  pub node_step : (node : Node S) (es : List Event) (i : ℕ) (e : Event) → i < length es → e ≡ get_or es i e → node_over guests node (drop i es) ≡ node_over guests (node_after guests node e.input) (drop (i + 1) es)
+  unfolding node_over
+  node_step node es i e l is = ap (node_over guests node) (rest_from es i e l is)
+
+  pub sent_step : (node : Node S) (sent : List Sent) (es : List Event) (i : ℕ) (e : Event) → i < length es → e ≡ get_or es i e → last_sent guests node sent (drop i es) ≡ last_sent guests (node_after guests node e.input) (node_sent guests node e.input) (drop (i + 1) es)
+  unfolding last_sent
+  sent_step node sent es i e l is = ap (last_sent guests node sent) (rest_from es i e l is)
+
+  pub sent_nothing : (node : Node S) (sent : List Sent) → last_sent guests node sent [] ≡ sent
+  unfolding last_sent
+  sent_nothing node sent = refl
+
+  pub emitted_step : (t : Timing) (ends : List End) (node : Node S) (es : List Event) (i : ℕ) (e : Event) → i < length es → e ≡ get_or es i e → emitted_over guests t ends node (drop i es) ≡ emitted_at guests t ends node e ++ emitted_over guests t ends (node_after guests node e.input) (drop (i + 1) es)
+  unfolding emitted_over
+  emitted_step t ends node es i e l is = ap (emitted_over guests t ends node) (rest_from es i e l is)
+
+  pub emitted_nothing : (t : Timing) (ends : List End) (node : Node S) → emitted_over guests t ends node [] ≡ []
+  unfolding emitted_over
+  emitted_nothing t ends node = refl
+
+  -- ---- the kept nodes
+
+  cmp_same : (n m : ℕ) → n ≡ m → nat_cmp n m ≡ Equal
+  cmp_same n m h = sym (nat_cmp_is n m Equal h)
+
+  cmp_past : (n m : ℕ) → m < n → nat_cmp n m ≡ Greater
+  cmp_past n m h = sym (nat_cmp_is n m Greater h)
+
+  pub kept_node : (k : ℕ) (node : Node S) (es : List Event) (i p : ℕ) → p ≡ k + i → i ≤ length es → kept_at (nodes_over guests k node es) p ≡ Some (node_over guests node (take i es))
+  unfolding nodes_over node_over
+  kept_node k node [] zero p h l = let g = cmp_same p k (omega (arith, h)) in simp g
+  kept_node k node [] (suc i) p h l = absurd (omega (arith, l))
+  kept_node k node (e ∷ es) zero p h l = let g = cmp_same p k (omega (arith, h)) in simp g
+  kept_node k node (e ∷ es) (suc i) p h l =
+      let g = cmp_past p k (omega (arith, h)) in
+      simp g (kept_node (suc k) (node_after guests node e.input) es i p (omega (arith, h)) (omega (arith, l)))
+
+  -- past its places
+  base_none : (k : ℕ) (node : Node S) (es : List Event) (p : ℕ) → p < k → base_place p (nodes_over guests k node es) ≡ 0
+  unfolding nodes_over base_place
+  base_none k node [] p h = let g = not_le k p h in simp g
+  base_none k node (e ∷ es) p h = let g = not_le k p h in simp g (base_none (suc k) (node_after guests node e.input) es p (omega (arith, h)))
+
+  pub kept_base : (k : ℕ) (node : Node S) (es : List Event) (i p : ℕ) → p ≡ k + i → i ≤ length es → base_place p (nodes_over guests k node es) ≡ p
+  unfolding nodes_over base_place
+  kept_base k node [] zero p h l = let g = le_is k p (omega (arith, h)) in simp g (omega (arith, h))
+  kept_base k node [] (suc i) p h l = absurd (omega (arith, l))
+  kept_base k node (e ∷ es) zero p h l =
+      let g = le_is k p (omega (arith, h)) in
+      let none = base_none (suc k) (node_after guests node e.input) es p (omega (arith, h)) in
+      simp g (ap (max k) none ∙ (let m : max k 0 ≡ p = omega (arith, h) in m))
+  kept_base k node (e ∷ es) (suc i) p h l =
+      let g = le_is k p (omega (arith, h)) in
+      let ih = kept_base (suc k) (node_after guests node e.input) es i p (omega (arith, h)) (omega (arith, l)) in
+      simp g (ap (max k) ih ∙ (let m : max k p ≡ p = omega (arith, h) in m))
+
+  pub kept_has : (node : Node S) (es : List Event) (p : ℕ) → HasBase p (nodes_over guests 0 node es)
+  unfolding nodes_over
+  kept_has node [] p = let g = le_is 0 p (omega arith) in simp g (omega arith)
+  kept_has node (e ∷ es) p = let g = le_is 0 p (omega arith) in simp g (omega arith)
+
+  -- one more is kept
+  pub kept_more : (k : ℕ) (node : Node S) (es : List Event) (e : Event) (p : ℕ) → p ≡ suc (k + length es) → with_kept (nodes_over guests k node es) p (node_over guests node (es ++ e ∷ [])) ≡ nodes_over guests k node (es ++ e ∷ [])
+  unfolding nodes_over node_over
+  kept_more k node [] e p h =
+      let g = cmp_past p k (omega (arith, h)) in
+      let same : p ≡ suc k = omega (arith, h) in
+      simp g (λ i. (k, node) ∷ (same i, node_after guests node e.input) ∷ [])
+  kept_more k node (x ∷ xs) e p h =
+      let g = cmp_past p k (omega (arith, h)) in
+      simp g (ap (λ l. (k, node) ∷ l) (kept_more (suc k) (node_after guests node x.input) xs e p (omega (arith, h))))
+
+  -- some are cut off
+  cut_none : (k : ℕ) (node : Node S) (es : List Event) (p : ℕ) → p < k → kept_up_to p (nodes_over guests k node es) ≡ []
+  unfolding nodes_over
+  cut_none k node [] p h = let g = not_le k p h in simp g
+  cut_none k node (e ∷ es) p h = let g = not_le k p h in simp g (cut_none (suc k) (node_after guests node e.input) es p (omega (arith, h)))
+
+  pub kept_cut : (k : ℕ) (node : Node S) (es : List Event) (i p : ℕ) → p ≡ k + i → i ≤ length es → kept_up_to p (nodes_over guests k node es) ≡ nodes_over guests k node (take i es)
+  unfolding nodes_over
+  kept_cut k node [] zero p h l = let g = le_is k p (omega (arith, h)) in simp g
+  kept_cut k node [] (suc i) p h l = absurd (omega (arith, l))
+  kept_cut k node (e ∷ es) zero p h l =
+      let g = le_is k p (omega (arith, h)) in
+      simp g (ap (λ l. (k, node) ∷ l) (cut_none (suc k) (node_after guests node e.input) es p (omega (arith, h))))
+  kept_cut k node (e ∷ es) (suc i) p h l =
+      let g = le_is k p (omega (arith, h)) in
+      simp g (ap (λ l. (k, node) ∷ l) (kept_cut (suc k) (node_after guests node e.input) es i p (omega (arith, h)) (omega (arith, l))))
+
+  -- ---- a turn of such a loop
+
+  pub node_turn : (node new before : Node S) (es : List Event) (i : ℕ) (e : Event) → i < length es → e ≡ get_or es i e → new ≡ node_after guests node e.input → node_over guests node (drop i es) ≡ before → node_over guests new (drop (i + 1) es) ≡ before
+  node_turn node new before es i e l is took h =
+      ap (λ n. node_over guests n (drop (i + 1) es)) took ∙ sym (node_step node es i e l is) ∙ h
+
+  pub sent_turn : (node new : Node S) (sent more before : List Sent) (es : List Event) (i : ℕ) (e : Event) → i < length es → e ≡ get_or es i e → new ≡ node_after guests node e.input → more ≡ node_sent guests node e.input → last_sent guests node sent (drop i es) ≡ before → last_sent guests new more (drop (i + 1) es) ≡ before
+  sent_turn node new sent more before es i e l is took gave h =
+      (λ j. last_sent guests (took j) (gave j) (drop (i + 1) es)) ∙ sym (sent_step node sent es i e l is) ∙ h
+
+  pub emitted_turn : (t : Timing) (ends : List End) (node new : Node S) (emitted more all before : List Event) (es : List Event) (i : ℕ) (e : Event) → i < length es → e ≡ get_or es i e → new ≡ node_after guests node e.input → more ≡ emitted_at guests t ends node e → all ≡ emitted ++ more → emitted ++ emitted_over guests t ends node (drop i es) ≡ before → all ++ emitted_over guests t ends new (drop (i + 1) es) ≡ before
+  emitted_turn t ends node new emitted more all before es i e l is took gave join h =
+      (λ j. join j ++ emitted_over guests t ends (took j) (drop (i + 1) es))
+      ∙ append_assoc emitted more (emitted_over guests t ends (node_after guests node e.input) (drop (i + 1) es))
+      ∙ ap (λ r. emitted ++ r) ((λ j. gave j ++ emitted_over guests t ends (node_after guests node e.input) (drop (i + 1) es)) ∙ sym (emitted_step t ends node es i e l is))
+      ∙ h
+
+  pub node_end : (node : Node S) (es : List Event) (i : ℕ) → length es ≤ i → node_over guests node (drop i es) ≡ node
+  node_end node es i l = ap (node_over guests node) (none_from es i l) ∙ node_nothing node
+
+  pub sent_end : (node : Node S) (sent : List Sent) (es : List Event) (i : ℕ) → length es ≤ i → last_sent guests node sent (drop i es) ≡ sent
+  sent_end node sent es i l = ap (last_sent guests node sent) (none_from es i l) ∙ sent_nothing node sent
+
+  pub emitted_end : (t : Timing) (ends : List End) (node : Node S) (emitted es : List Event) (i : ℕ) → length es ≤ i → emitted ++ emitted_over guests t ends node (drop i es) ≡ emitted
+  emitted_end t ends node emitted es i l =
+      ap (λ r. emitted ++ r) (ap (emitted_over guests t ends node) (none_from es i l) ∙ emitted_nothing t ends node) ∙ append-nil emitted
+
+  pub kept_nothing : (k : ℕ) (node : Node S) → nodes_over guests k node [] ≡ (k, node) ∷ []
+  unfolding nodes_over
+  kept_nothing k node = refl
+
+  -- the node that is kept for all of the events
+  pub kept_last : (node : Node S) (es : List Event) (p : ℕ) (kept : Kept S) (at : Node S) → p ≡ length es → kept ≡ nodes_over guests 0 node es → kept_at kept p ≡ Some at → at ≡ node_over guests node es
+  kept_last node es p kept at h is got =
+      let want = kept_node 0 node es (length es) p (omega (arith, h)) (omega arith) in
+      let same : Some at ≡ Some (node_over guests node (take (length es) es)) = sym got ∙ ap (λ k. kept_at k p) is ∙ want in
+      let here : at ≡ node_over guests node (take (length es) es) = cc in
+      here ∙ ap (node_over guests node) (all_of es)
+    where
+      all_of : (xs : List Event) → take (length xs) xs ≡ xs
+      all_of [] = refl
+      all_of (x ∷ xs) = ap (λ l. x ∷ l) (all_of xs)
+
+  -- the node that is kept for a front of them
+  pub kept_front : (node : Node S) (es : List Event) (p : ℕ) (kept : Kept S) (at : Node S) → p ≤ length es → kept ≡ nodes_over guests 0 node es → kept_at kept p ≡ Some at → at ≡ node_over guests node (take p es)
+  kept_front node es p kept at h is got =
+      let want = kept_node 0 node es p p (omega arith) h in
+      let same : Some at ≡ Some (node_over guests node (take p es)) = sym got ∙ ap (λ k. kept_at k p) is ∙ want in
+      cc
+
+  pub base_is : (node : Node S) (es : List Event) (p : ℕ) (kept : Kept S) → p ≤ length es → kept ≡ nodes_over guests 0 node es → base_place p kept ≡ p
+  base_is node es p kept h is = ap (base_place p) is ∙ kept_base 0 node es p p (omega arith) h
+
+  pub has_is : (node : Node S) (es : List Event) (p : ℕ) (kept : Kept S) → kept ≡ nodes_over guests 0 node es → HasBase p kept
+  has_is node es p kept is = subst (HasBase p) (sym is) (kept_has node es p)
+
+  -- what `base_for` gives for the place after all of the events, or after a front of them
+  pub base_last : (node : Node S) (es : List Event) (len : ℕ) (kept : Kept S) (place : ℕ) (at : Node S) → len ≡ length es → kept ≡ nodes_over guests 0 node es → place ≡ base_place len kept → kept_at kept place ≡ Some at → (place ≡ length es) × (at ≡ node_over guests node es)
+  base_last node es len kept place at l is p got =
+      let here : place ≡ len = p ∙ base_is node es len kept (omega (arith, l)) is in
+      (here ∙ l, kept_last node es place kept at (here ∙ l) is got)
+
+  pub base_front : (node : Node S) (es : List Event) (len : ℕ) (kept : Kept S) (place : ℕ) (at : Node S) → len ≤ length es → kept ≡ nodes_over guests 0 node es → place ≡ base_place len kept → kept_at kept place ≡ Some at → at ≡ node_over guests node (take len es)
+  base_front node es len kept place at l is p got =
+      let here : place ≡ len = p ∙ base_is node es len kept l is in
+      kept_front node es place kept at (omega (arith, here, l)) is got ∙ ap (λ n. node_over guests node (take n es)) here

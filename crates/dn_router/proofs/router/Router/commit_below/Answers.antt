@@ -1,0 +1,32 @@
+use Rattle.std.proofs.Common.{◌≡◌, ℕ, ◌≤◌, List, ◌++◌, length, take, length-take, sym, ap, ◌∙◌, subst, arith}
+use Rattle.std.specs.List.{AllByRecursion}
+use Rattle.dn_model.specs.declared.event.Event.{Event}
+use Rattle.dn_model.specs.declared.key.Key.{Key}
+use Rattle.dn_model.specs.Settled.{below}
+use Rattle.dn_world.specs.Runs.{IsPast}
+use Rattle.dn_router.specs.Sound.{IsSound}
+use Rattle.dn_router.proofs.Rising.{fewer_below, count_is}
+use Rattle.dn_router.proofs.Sound.{beside, sound_committed}
+use Rattle.dn_router.proofs.router.Router.commit_below.Goals as goal
+
+pub between-fresh-requires-clause-start : goal.between-fresh-requires-clause-start
+between-fresh-requires-clause-start g c =
+    let done = c.self.inside.done.items in
+    let key = c.args.key.now in
+    let count = count_is key c.as_slice.result.now done c.count_below-count.result c.as_slice.ensures.value c.count_below-count.ensures.within c.count_below-count.ensures.front in
+    let rising : IsPast c.self.inside.bound key = subst (λ b. IsPast b key) (sym (ap (λ s. s.bound) c.self.view_is)) c.requires.rising in
+    let fewer = fewer_below c.self.inside.bound key done rising in
+    let before = c.self.invariant.committed in
+    omega (arith, count, fewer, before)
+
+pub invariant_of-self : goal.invariant_of-self
+invariant_of-self g c =
+    let m = g.G.Guest.meaning in
+    let done = c.self.inside.done.items in
+    let key = c.args.key.now in
+    let p = beside done c.self.inside.queue in
+    let count = count_is key c.as_slice.result.now done c.count_below-count.result c.as_slice.ensures.value c.count_below-count.ensures.within c.count_below-count.ensures.front in
+    let waiting : AllByRecursion (λ e. IsPast key e.key) (p.todo ++ p.voids) =
+    subst (λ (l : List Event). AllByRecursion (λ e. IsPast key e.key) l) (sym (ap (λ s. s.part.todo ++ s.part.voids) c.self.view_is)) c.requires.waiting in
+    let sound = sound_committed m c.self.inside.number c.self.inside.timing.period c.self.inside.opening p c.self.inside.shelf c.self.inside.wrong c.self.inside.committed c.self.inside.bound key c.self.invariant waiting in
+    subst (λ (k : ℕ). IsSound m c.self.inside.number c.self.inside.timing.period c.self.inside.opening p c.self.inside.shelf c.self.inside.wrong k key) count sound
