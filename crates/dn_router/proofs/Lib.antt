@@ -7,3 +7,4 @@ pub mod Sound
 pub mod Answers
 pub mod Ordering
 pub mod Rolling
+pub mod Zero

@@ -8,7 +8,9 @@ ghost use Rattle.dn_model.specs.declared.event.Event.{Event};
 ghost use Rattle.dn_model.specs.Cases.{timing_of};
 ghost use Rattle.dn_model.specs.Links.{ends};
 ghost use Rattle.dn_model.specs.Network.{Network, opening_node, state, state_from, sent_from};
-ghost use Rattle.dn_world.specs.World.{Part};
+ghost use Rattle.dn_model.specs.declared.key.Key.{Key};
+ghost use Rattle.dn_world.specs.World.{Part, key_of};
+ghost use Rattle.dn_world.specs.Runs.{IsPast};
 ghost use Rattle.dn_world.specs.Steps.{emits, kept, taken_off};
 ghost use Rattle.dn_router.specs.Replays.{node_over, emitted_at, emitted_over};
 ghost use Rattle.dn_router.specs.Routers.{staying, taken_back};
@@ -22,4 +24,9 @@ pub fn of_a_network<S>()
     ensures sent { (net : Network S) (r : ℕ) (node : Node S) (history : List Event) → AllByRecursion (λ e. e.router ≡ r) history → emitted_over net.guests (timing_of net.header) (ends net.header.links r) node history ≡ sent_from net node history }
     ensures staying { (net : Network S) (p : Part) → staying p ≡ kept net p }
     ensures taken { (net : Network S) (p : Part) → taken_back p ≡ taken_off net p }
+{}
+
+/// No key is before the key of zeros, which is the bound of a router before its first commit.
+pub fn nothing_before_zeros()
+    ensures { (k : Key) → IsPast (key_of 0 0) k }
 {}
