@@ -1,19 +1,18 @@
 -- Cases made from a number meet the rules: routers with letters as names, links while ports are left, and externals group by group.
-use Rattle.std.proofs.Common.{◌≡◌, ◌≢◌, ℕ, zero, suc, ◌+◌, ◌<◌, ◌≤◌, true, false, Some, None, Option, List, [], ◌∷◌, ◌++◌, length, get_or, refl, sym, ap, ◌∙◌, subst, Bool, arith, append_assoc, append-nil, length-append}
+use Rattle.std.proofs.Common.{◌≡◌, ℕ, zero, suc, ◌+◌, ◌<◌, ◌≤◌, true, false, Some, None, Option, List, [], ◌∷◌, ◌++◌, length, get_or, refl, sym, subst, Bool, arith, append_assoc, append-nil, length-append}
 use Rattle.std.specs.Prelude.{IsTrue, nat_eq, nat_le, position}
 use Rattle.std.specs.List.{AllByRecursion}
 use Rattle.std.specs.Cmp.Lexicographic.{pointwise}
 use Rattle.std.proofs.lemmas.Bool.{both_ways, ne_eqb, le-leb}
 use Rattle.std.proofs.lemmas.List.Quantifiers.{position-Some}
-use Rattle.dn_model.specs.declared.router.Kind.TheVariants as kind
 use Rattle.dn_model.specs.declared.router.RouterDef.{RouterDef}
 use Rattle.dn_model.specs.declared.link.Link.{Link}
 use Rattle.dn_model.specs.declared.feed.External.{External}
-use Rattle.dn_model.specs.Cases.{Heading, IsRouter, AreRouters, IsLink, AreLinks, IsAsked, IsExternal, AreExternals}
+use Rattle.dn_model.specs.Cases.{Heading, IsRouter, AreRouters, IsLink, AreLinks, IsAsked, AreExternals}
 use Rattle.dn_model.specs.Names.{is_name}
 use Rattle.dn_model.specs.Routers.{number_of}
 use Rattle.dn_model.specs.Links.{ports_of}
-use Rattle.dn_lists.proofs.Lists.{all_append, all_weaker}
+use Rattle.dn_lists.proofs.Lists.{all_append}
 use Rattle.dn_lockstep.proofs.TwoRouters.{named}
 
 -- ---- one more at the end

@@ -1,5 +1,4 @@
-use Rattle.std.proofs.Common.{◌≡◌, ◌+◌, List, [], ◌++◌, sym, subst, arith, append-nil}
-use Rattle.dn_model.specs.declared.feed.External.{External}
+use Rattle.std.proofs.Common.{◌+◌, [], sym, subst, arith, append-nil}
 use Rattle.dn_model.specs.Cases.{AreExternals}
 use Rattle.dn_lockstep.proofs.GeneratedCases.{from_earlier}
 use Rattle.dn_lockstep.proofs.generated.feed.Goals as goal

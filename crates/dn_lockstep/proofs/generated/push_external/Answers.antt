@@ -1,4 +1,4 @@
-use Rattle.std.proofs.Common.{◌≡◌, List, [], ◌∷◌, ◌++◌, ℕ, refl, ap, ◌∙◌, subst}
+use Rattle.std.proofs.Common.{◌≡◌, List, ◌++◌, ℕ, refl, ap, ◌∙◌, subst}
 use Rattle.std.proofs.lemmas.Result.{MatchResult-weaker}
 use Rattle.dn_model.specs.declared.link.Link.{Link}
 use Rattle.dn_model.specs.declared.feed.External.{External}

@@ -1,6 +1,5 @@
-use Rattle.std.proofs.Common.{◌≡◌, List, ◌++◌, sym, ap, ◌∙◌, subst}
+use Rattle.std.proofs.Common.{List, ◌++◌, ap, ◌∙◌}
 use Rattle.dn_model.specs.declared.feed.External.{External}
-use Rattle.dn_model.specs.Cases.{AreExternals}
 use Rattle.dn_lockstep.proofs.generated.push_group.Goals.{then-below-eq0+in_ok-push_external, else-below-eq0}
 use Rattle.dn_lockstep.proofs.generated.push_group.Goals as goal
 

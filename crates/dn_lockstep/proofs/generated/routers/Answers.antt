@@ -1,5 +1,5 @@
-use Rattle.std.proofs.Common.{◌≡◌, ◌<◌, ◌∷◌, [], ◌++◌, length, add-one, ap, ◌∙◌, arith}
-use Rattle.dn_lockstep.proofs.GeneratedCases.{letters, letters_count, letter_name, one_router_more}
+use Rattle.std.proofs.Common.{◌<◌, ◌∷◌, [], ◌++◌, length, add-one, ap, ◌∙◌, arith}
+use Rattle.dn_lockstep.proofs.GeneratedCases.{letters_count, letter_name, one_router_more}
 use Rattle.dn_lockstep.proofs.generated.routers.Goals as goal
 
 pub loop-number-preserved : goal.loop-number-preserved

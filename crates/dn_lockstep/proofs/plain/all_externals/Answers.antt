@@ -1,5 +1,4 @@
-use Rattle.std.proofs.Common.{◌≡◌, List, [], ◌∷◌, ◌++◌, take, sym, ap, ◌∙◌}
-use Rattle.dn_model.specs.declared.event.Event.{Event}
+use Rattle.std.proofs.Common.{[], ◌∷◌, ◌++◌, sym, ◌∙◌}
 use Rattle.dn_model.specs.Network.{externals}
 use Rattle.dn_lockstep.proofs.Queueing.{externals_next}
 use Rattle.dn_lockstep.proofs.plain.all_externals.Goals as goal

@@ -1,4 +1,4 @@
-use Rattle.std.proofs.Common.{◌≡◌, ℕ, ◌+◌, ◌<◌, length, true, false, sym, ap, ◌∙◌, subst, arith, rules}
+use Rattle.std.proofs.Common.{◌≡◌, ◌+◌, ◌<◌, length, sym, ap, ◌∙◌, subst, arith, rules}
 use Rattle.std.specs.Ordering.{is_lt}
 use Rattle.dn_model.specs.Order.{event_cmp}
 use Rattle.dn_lockstep.proofs.PlainSteps.{IsUpToFirst, new_place, same_place, all_places}

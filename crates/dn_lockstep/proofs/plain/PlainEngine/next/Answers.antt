@@ -2,7 +2,6 @@ use Rattle.std.proofs.Common.{◌≡◌, ◌+◌, ◌<◌, Bool, Some, List, [],
 use Rattle.std.proofs.lemmas.Bool.{eqb-true, eqb-false}
 use Rattle.dn_guest.specs.declared.node.Node.{Node}
 use Rattle.dn_model.specs.Settled.{rows}
-use Rattle.dn_lockstep.specs.Agendas.{waiting_in}
 use Rattle.dn_lockstep.specs.Least.{IsLeast}
 use Rattle.dn_lockstep.specs.Running.{Running, StandsIn}
 use Rattle.dn_lockstep.specs.Steps.{IsHandled}
