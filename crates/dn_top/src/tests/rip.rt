@@ -1,6 +1,6 @@
 //! A triangle of RIP routers.
 
-ghost use Rattle.std.specs.Prelude.{◌≡◌};
+ghost use Rattle.std.specs.Prelude.{◌≡◌, ◌<◌, length, IfOk};
 
 use super::{joined, plain_outcome};
 use crate::status_number;
@@ -8,6 +8,7 @@ use crate::written::guests_of;
 use dn_case::read_case;
 use dn_guest::{Bytes, Guest, NoMemory};
 use dn_lockstep::Engine;
+use dn_model::Case;
 use guest_any::AnyGuest;
 use std::alloc::Global;
 use std::test::Fail;
@@ -68,6 +69,48 @@ fn a_router_begins_with_its_settings(rt: HostRuntime) -> Result<(), Fail> {
     Ok(())
 }
 
+/// Two RIP routers of which a has a network, for two groups.
+const PAIR: &[u8] = b"\
+    defined 1\n\
+    period 100\n\
+    groups 2\n\
+    seed 0\n\
+    router a rip\n\
+    router b rip\n\
+    link a b 10 1\n\
+    prefix a 10.9.0.0/16 1\n\
+    feed\n\
+    end\n\
+";
+
+const PAIR_TRACE: &[u8] = b"\
+    trace\n\
+    0 0 t 0000000000000000 0 0 a tick\n\
+    0 0 t 0000000000000000 1 0 b tick\n\
+    0 10 m 0000000000000000 0 0 b msg 0 010200000000000000000000000000000000000000000010\n\
+    0 10 m 0000000000000000 0 1 b msg 0 02020000000200000a090000ffff00000000000000000001\n\
+    0 10 m 0000000000000000 1 0 a msg 0 010200000000000000000000000000000000000000000010\n\
+    0 20 m 0000000000000000 0 2 b msg 0 02020000000200000a090000ffff00000000000000000001\n\
+    0 20 m 0000000000000000 1 1 a msg 0 02020000000200000a090000ffff00000000000000000010\n\
+    1 0 t 0000000000000000 0 0 a tick\n\
+    1 0 t 0000000000000000 1 0 b tick\n\
+    1 10 m 0000000000000000 1 2 a msg 0 02020000000200000a090000ffff00000000000000000010\n\
+    state a 3 0001 000000000001010100010a09000010000001ff0000000000\n\
+    state b 3 0001 000100000001010100010a09000010000002000000000000\n\
+    end trace 10\n\
+";
+
+/// Each asks for the other's table; the network is told, and comes back at metric 16.
+#[test]
+fn two_rip_routers_tell_each_other(rt: HostRuntime) -> Result<(), Fail> {
+    let alloc = rt.alloc();
+    let (status, sink) = plain_outcome(alloc, &["run"], PAIR)?;
+    let wanted = joined(alloc, PAIR, PAIR_TRACE)?;
+    assert_eq!(rt; status_number(&status), 0);
+    assert_eq!(rt; sink.as_slice(), wanted.as_slice());
+    Ok(())
+}
+
 /// Handles all rows before the first of the group.
 fn run_until(alloc: Global, engine: &mut Engine<AnyGuest>, group: u32) -> Result<(), NoMemory>
     ensures { engine.new.header ≡ engine.old.header }
@@ -86,27 +129,53 @@ fn run_until(alloc: Global, engine: &mut Engine<AnyGuest>, group: u32) -> Result
     Ok(())
 }
 
+/// What router b shows before the first row of the group.
+fn shown_before(alloc: Global, engine: &mut Engine<AnyGuest>, group: u32) -> Result<Bytes, NoMemory>
+    requires { 1 < length engine.old.header.routers }
+    ensures { engine.new.header ≡ engine.old.header }
+{
+    run_until(alloc, engine, group)?;
+    let mut shown = Bytes::new(alloc);
+    engine.node(1).guest.show(alloc, &mut shown)?;
+    Ok(shown)
+}
+
+/// How many routers the case has.
+fn router_count(case: &Case) -> usize
+    ensures { result ≡ length case.now.header.routers }
+{
+    case.header.routers.as_slice().len()
+}
+
+/// The engine before the first row.
+fn engine_of(alloc: Global, case: &Case) -> Result<Engine<AnyGuest>, NoMemory>
+    ensures { IfOk result (λ made. made.header ≡ case.now.header) }
+{
+    Engine::new(alloc, case, guests_of(alloc, case)?)
+}
+
 /// A network that is withdrawn is told at metric 16, and is gone 120 ticks later.
 #[test]
 fn a_withdrawn_network_is_told_and_collected(rt: HostRuntime) -> Result<(), Fail> {
     let alloc = rt.alloc();
     let (case, _) = read_case(alloc, TRIANGLE).ok().ok_or("it is a case")?;
-    assert!(rt; case.header.routers.as_slice().len() == 3);
-    if case.header.routers.as_slice().len() != 3 {
+    let count = router_count(&case);
+    assert_eq!(rt; count, 3);
+    if count != 3 {
         return Ok(());
     }
-    let mut engine = Engine::new(alloc, &case, guests_of(alloc, &case)?)?;
-    for (group, routes) in [
-        (40, "route 10.9.0.0/16 2 via 0\n"),
-        (41, "route 10.9.0.0/16 16 via 0\n"),
-        (160, "route 10.9.0.0/16 16 via 0\n"),
-        (161, ""),
-    ] {
-        run_until(alloc, &mut engine, group)?;
-        let mut shown = Bytes::new(alloc);
-        engine.node(1).guest.show(alloc, &mut shown)?;
-        assert_eq!(rt; shown.as_slice(), routes.as_bytes());
-    }
+    let mut engine = engine_of(alloc, &case)?;
+    let told = shown_before(alloc, &mut engine, 40)?;
+    assert_eq!(rt; told.as_slice(), b"route 10.9.0.0/16 2 via 0\n".as_slice());
+    let withdrawn = shown_before(alloc, &mut engine, 41)?;
+    assert_eq!(rt;
+        withdrawn.as_slice(),
+        b"route 10.9.0.0/16 16 via 0\n".as_slice()
+    );
+    let kept = shown_before(alloc, &mut engine, 160)?;
+    assert_eq!(rt; kept.as_slice(), b"route 10.9.0.0/16 16 via 0\n".as_slice());
+    let collected = shown_before(alloc, &mut engine, 161)?;
+    assert_eq!(rt; collected.as_slice(), b"".as_slice());
     Ok(())
 }
 
