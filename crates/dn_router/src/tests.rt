@@ -1,10 +1,10 @@
 //! The worked runs, and arrivals in every order.
 
-ghost use Rattle.std.specs.Prelude.{◌≡◌, IfOk};
+ghost use Rattle.std.specs.Prelude.{◌≡◌, [], IsTrue};
 
 use crate::{Applied, Order, Outcome, Router};
 use dn_guest::{Bytes, Flood, Input, NoMemory, Node};
-use dn_model::{End, Event, Key, Timing};
+use dn_model::{End, Event, Key, Row, Timing};
 use std::alloc::Global;
 use std::marker::Model;
 use std::test::Fail;
@@ -293,31 +293,52 @@ fn an_unsend_after_its_event_was_handled(rt: HostRuntime) -> Result<(), Fail> {
     Ok(())
 }
 
+/// Whether nothing waits at the router.
+fn is_idle(router: &Router<Flood>) -> bool
+    ensures todo { IsTrue result → router.now.part.todo ≡ [] }
+    ensures voids { IsTrue result → router.now.part.voids ≡ [] }
+{
+    router.least().is_none() && router.voids().is_empty()
+}
+
+/// The places of the rows that are committed below one key, and then below another: None where something
+/// waits, or where the second key is below the first.
+fn commit_twice(
+    alloc: Global,
+    middle: Middle,
+    one: &Key,
+    other: &Key,
+) -> Result<Option<(Vec<Key>, Vec<Key>)>, NoMemory> {
+    let mut router = middle.router;
+    if !is_idle(&router) || other < one {
+        return Ok(None);
+    }
+    let first = router.commit_below(one)?;
+    let second = router.commit_below(other)?;
+    Ok(Some((row_keys(alloc, first.as_slice())?, row_keys(alloc, second.as_slice())?)))
+}
+
+/// The keys of the rows.
+fn row_keys(alloc: Global, rows: &[Row]) -> Result<Vec<Key>, NoMemory> {
+    let mut made = Vec::new(alloc);
+    for row in rows {
+        made.push(row.key)?;
+    }
+    Ok(made)
+}
+
 #[test]
 fn what_is_below_a_key_is_committed_once(rt: HostRuntime) -> Result<(), Fail> {
     let alloc = rt.alloc();
-    let node = Node {
-        guest: Flood::new(alloc),
-        ports: 0,
-        sends: 0,
-    };
-    let timing = Timing {
-        period: 100,
-        groups: 4,
-        seed: 0,
-    };
-    let mut router = Router::new(alloc, 1, Vec::new(alloc), timing, node)?;
-    let mut key = Key {
-        group: 0,
-        sum: 5,
-        class: 0,
-        tie: 0,
-        origin: 0,
-        seq: 0,
-    };
-    assert!(rt; router.commit_below(&key)?.is_empty());
-    key.sum = 7;
-    assert!(rt; router.commit_below(&key)?.is_empty());
+    let mut middle = Middle::new(alloc, 2)?;
+    for group in 0..3 {
+        middle.arrive(true, tick(group))?;
+    }
+    middle.drive()?;
+    let (one, other) = (tick(1).key, tick(3).key);
+    let (first, second) = commit_twice(alloc, middle, &one, &other)?.ok_or("something waits")?;
+    assert_eq!(rt; first.as_slice(), [tick(0).key].as_slice());
+    assert_eq!(rt; second.as_slice(), [tick(1).key, tick(2).key].as_slice());
     Ok(())
 }
 
