@@ -2,7 +2,6 @@
 //! (RFC 2328 sections 9 and 10).
 
 ghost use Rattle.std.specs.Prelude.{◌≡◌, ◌↔◌, ◌+◌, ◌≤◌, ◌<◌, IsTrue, IfOk, OnOk, length, map};
-ghost use Rattle.std.specs.Map.{keys_of};
 ghost use Rattle.dn_guest.specs.Ports.{with_up};
 ghost use Rattle.ospf_flood.specs.Lists.{due, list_of, off_all};
 ghost use Rattle.ospf_flood.specs.Flooding.{flooded, state};
@@ -223,12 +222,12 @@ impl Interfaces {
         self.lists.due(port, now)
     }
 
-    /// The LSAs on a port's list, in ascending order.
-    pub fn listed(&self, port: u8) -> Result<Vec<LsaKey>, AllocError>
+    /// The LSAs on a port's list with the ticks at which they were last sent there, in ascending order.
+    pub fn listed(&self, port: u8) -> Result<Vec<(LsaKey, u32)>, AllocError>
         requires { port < length self.now.ports }
-        ensures { IfOk result (λ keys. keys.items ≡ keys_of (list_of self.now.lists port)) }
+        ensures { IfOk result (λ entries. entries.items ≡ list_of self.now.lists port) }
     {
-        self.lists.keys(port)
+        self.lists.entries(port)
     }
 
     /// Floods an LSA of the database on the ports of a mask: `ospf_flood::flood` on these lists.

@@ -1,0 +1,4 @@
+pub mod Image
+pub mod ImageTells
+pub mod Show
+pub mod Ospf
