@@ -79,23 +79,31 @@ ports_image (p ∷ ps) (l ∷ ls) = port_image p l ++ ports_image ps ls
 unfoldable pub head_image : LsaHeader → List ℕ
 head_image h = two h.age ++ h.options ∷ h.kind ∷ four h.id ++ four h.router ++ four h.seq ++ two h.sum ++ two h.length
 
--- An LSA is plain where its length is that of its bytes and it was last sent before the last of all ticks. Each LSA of a
--- router is plain.
-abbrev pub is_plain : Kept → Bool
-is_plain k = k.lsa.head.length == 20 + length k.lsa.body && nat_lt (one_more k.sent) (2 ^ 32)
+-- the header has this name
+abbrev pub is_named : LsaKey → LsaHeader → Bool
+is_named key h = key.kind == h.kind && (key.id == h.id && key.router == h.router)
+
+-- An LSA is plain where it stands at its own name, its length is that of its bytes, and it was last sent before the last
+-- of all ticks. Each LSA of a router is plain.
+abbrev pub is_plain : LsaKey → Kept → Bool
+is_plain key k =
+    is_named key k.lsa.head
+    && (nat_lt (one_more k.sent) (2 ^ 32) && (nat_le (length k.lsa.body) 65535 && k.lsa.head.length == 20 + length k.lsa.body))
 
 -- flooded 1, foreign 2; one that isn't plain adds 4
-abbrev pub flags_byte : Kept → ℕ
-flags_byte k = bit k.flooded + 2 * bit k.foreign + (if is_plain k then 0 else 4)
+abbrev pub flags_byte : LsaKey → Kept → ℕ
+flags_byte key k = bit k.flooded + 2 * bit k.foreign + (if is_plain key k then 0 else 4)
 
--- the tick after that of the last sending, 0 where there was none; behind it, where the LSA isn't plain, how many bytes
--- its body has
-abbrev pub sent_image : Kept → List ℕ
-sent_image k = if is_plain k then four (one_more k.sent) else eight (one_more k.sent) ++ eight (length k.lsa.body)
+-- The tick after that of the last sending, 0 where there was none. Behind it, where the LSA isn't plain, stand its name
+-- and how many bytes its body has.
+abbrev pub sent_image : LsaKey → Kept → List ℕ
+sent_image key k =
+    if is_plain key k then four (one_more k.sent)
+    else eight (one_more k.sent) ++ key.kind ∷ four key.id ++ four key.router ++ eight (length k.lsa.body)
 
 -- installed 4, flags 1, sent 4, the LSA with its stored age
 unfoldable pub kept_image : LsaKey × Kept → List ℕ
-kept_image e = four e.1.installed ++ flags_byte e.1 ∷ sent_image e.1 ++ head_image e.1.lsa.head ++ e.1.lsa.body
+kept_image e = four e.1.installed ++ flags_byte e.0 e.1 ∷ sent_image e.0 e.1 ++ head_image e.1.lsa.head ++ e.1.lsa.body
 
 -- count 2, which isn't above 65,535, and each LSA
 unfoldable pub database_image : Database → List ℕ

@@ -33,14 +33,18 @@ address_text address =
 abbrev pub port_texts : ℕ → List ℕ
 port_texts mask = flat_map (λ p. 32 ∷ decimal p) (filter (is_up mask) (range_with_len 0 16))
 
--- `own` where the route is the router's own, then its ports, with one space between
+-- a space, and `own` where the route is the router's own, and its ports, with one space between
 unfoldable pub where_text : Bool → ℕ → List ℕ
 where_text own mask = if not own && mask == 0 then 32 ∷ [] else (if own then codes " own" else []) ++ port_texts mask
 
--- `route A.B.C.D/LEN COST via WHERE`; there is one space after `via` where nothing follows
+-- `route A.B.C.D/LEN COST via`
+unfoldable pub route_front : Route → List ℕ
+route_front r =
+    codes "route " ++ address_text r.prefix ++ codes "/" ++ decimal r.len ++ codes " " ++ decimal r.cost ++ codes " via"
+
+-- `route A.B.C.D/LEN COST via WHERE`
 unfoldable pub route_line : Route → List ℕ
-route_line r =
-    codes "route " ++ address_text r.prefix ++ codes "/" ++ decimal r.len ++ codes " " ++ decimal r.cost ++ codes " via" ++ where_text r.own r.via ++ 10 ∷ []
+route_line r = route_front r ++ where_text r.own r.via ++ 10 ∷ []
 
 -- the routes of the router at its last tick. A database of more than 65,535 LSAs, which no router has, has none.
 unfoldable pub route_lines : ℕ → ℕ → Database → List ℕ

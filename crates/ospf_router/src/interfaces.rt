@@ -7,7 +7,7 @@ ghost use Rattle.ospf_flood.specs.Lists.{due, list_of, off_all};
 ghost use Rattle.ospf_flood.specs.Flooding.{flooded, state};
 ghost use Rattle.ospf_flood.specs.Table.{verdict_of};
 ghost use Rattle.ospf_flood.specs.Receiving.{received, step_of};
-ghost use Rattle.ospf_router.specs.Interfaces.{emptied, full_from, full_mask, has_port, is_listed, listed, lowered, neighbour_at, opening_port, opening_ports, unlisted, with_neighbour};
+ghost use Rattle.ospf_router.specs.Interfaces.{emptied, full_from, full_mask, has_port, is_listed, listed, lowered, neighbour_at, opening_port, opening_ports, port_at, unlisted, with_neighbour};
 
 use crate::neighbour::Neighbour;
 use dn_guest::is_up;
@@ -124,6 +124,14 @@ impl Interfaces {
         ensures few { length self.now.ports ≤ 16 }
     {
         self.ports.as_slice()
+    }
+
+    /// A port.
+    pub fn port(&self, port: u8) -> Port
+        requires { port < length self.now.ports }
+        ensures { result ≡ port_at self.now port }
+    {
+        self.ports[usize::from(port)]
     }
 
     /// The neighbour at a port.

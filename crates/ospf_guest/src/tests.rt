@@ -1,0 +1,1 @@
+//! The image and the show of a small router.
