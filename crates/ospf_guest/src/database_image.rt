@@ -26,9 +26,26 @@ fn head_image(head: LsaHeader) -> [u8; 20]
     let sum = two(head.sum);
     let length = two(head.length);
     [
-        age[0], age[1], head.options, head.kind, id[0], id[1], id[2], id[3], router[0],
-        router[1], router[2], router[3], seq[0], seq[1], seq[2], seq[3], sum[0], sum[1],
-        length[0], length[1],
+        age[0],
+        age[1],
+        head.options,
+        head.kind,
+        id[0],
+        id[1],
+        id[2],
+        id[3],
+        router[0],
+        router[1],
+        router[2],
+        router[3],
+        seq[0],
+        seq[1],
+        seq[2],
+        seq[3],
+        sum[0],
+        sum[1],
+        length[0],
+        length[1],
     ]
 }
 

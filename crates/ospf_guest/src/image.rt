@@ -64,10 +64,7 @@ fn network_image(address: u32, len: u8, cost: u16) -> [u8; 7]
 }
 
 /// Appends own networks.
-fn push_networks(
-    networks: &[((u32, u8), u16)],
-    out: &mut Bytes,
-) -> Result<(), AllocError>
+fn push_networks(networks: &[((u32, u8), u16)], out: &mut Bytes) -> Result<(), AllocError>
     ensures ok { OnOk result (out.new ≡ out.old ++ flat_map network_image networks.now) }
     ensures kept { KeepsFront out.old out.new }
 {

@@ -47,8 +47,8 @@ fn listed_image(key: LsaKey, tick: u32) -> [u8; 13]
     let router = four(key.router);
     let sent = four(tick);
     [
-        key.kind, id[0], id[1], id[2], id[3], router[0], router[1], router[2], router[3],
-        sent[0], sent[1], sent[2], sent[3],
+        key.kind, id[0], id[1], id[2], id[3], router[0], router[1], router[2], router[3], sent[0],
+        sent[1], sent[2], sent[3],
     ]
 }
 
