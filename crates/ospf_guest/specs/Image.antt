@@ -94,12 +94,13 @@ is_plain key k =
 abbrev pub flags_byte : LsaKey → Kept → ℕ
 flags_byte key k = bit k.flooded + 2 * bit k.foreign + (if is_plain key k then 0 else 4)
 
--- The tick after that of the last sending, 0 where there was none. Behind it, where the LSA isn't plain, stand its name
--- and how many bytes its body has.
+-- what tells an LSA that isn't plain: the tick after that of its last sending, its name, how many bytes its body has
+abbrev pub odd_image : LsaKey → Kept → List ℕ
+odd_image key k = eight (one_more k.sent) ++ key.kind ∷ four key.id ++ four key.router ++ eight (length k.lsa.body)
+
+-- the tick after that of the last sending, 0 where there was none
 abbrev pub sent_image : LsaKey → Kept → List ℕ
-sent_image key k =
-    if is_plain key k then four (one_more k.sent)
-    else eight (one_more k.sent) ++ key.kind ∷ four key.id ++ four key.router ++ eight (length k.lsa.body)
+sent_image key k = if is_plain key k then four (one_more k.sent) else odd_image key k
 
 -- installed 4, flags 1, sent 4, the LSA with its stored age
 unfoldable pub kept_image : LsaKey × Kept → List ℕ

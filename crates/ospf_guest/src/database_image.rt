@@ -3,7 +3,7 @@
 ghost use Rattle.std.specs.Prelude.{◌≡◌, ◌++◌, ◌≤◌, ◌^◌, OnOk};
 ghost use Rattle.std.specs.List.{flat_map};
 ghost use Rattle.dn_guest.specs.KeepsFront.{KeepsFront};
-ghost use Rattle.ospf_guest.specs.Image.{bit, database_image, flags_byte, head_image, is_named, is_plain, kept_image, one_more, sent_image};
+ghost use Rattle.ospf_guest.specs.Image.{bit, database_image, flags_byte, head_image, is_named, is_plain, kept_image, odd_image, one_more, sent_image};
 
 use crate::image::{four, push_eight, two};
 use dn_guest::Bytes;
@@ -88,20 +88,28 @@ fn flags_byte(key: &LsaKey, kept: &Kept) -> u8
     flooded + foreign + odd
 }
 
-/// Appends when it was last sent.
-fn push_sent(key: &LsaKey, kept: &Kept, out: &mut Bytes) -> Result<(), AllocError>
-    ensures ok { OnOk result (out.new ≡ out.old ++ sent_image key.now kept.now) }
+/// Appends when it was last sent, its name, and how many bytes its body has.
+fn push_odd(key: &LsaKey, kept: &Kept, out: &mut Bytes) -> Result<(), AllocError>
+    ensures ok { OnOk result (out.new ≡ out.old ++ odd_image key.now kept.now) }
     ensures kept { KeepsFront out.old out.new }
 {
-    let sent = one_more(kept.sent);
-    if is_plain(key, kept) {
-        return out.append(&four(sent as u32));
-    }
-    push_eight(sent, out)?;
+    push_eight(one_more(kept.sent), out)?;
     out.push(key.kind)?;
     out.append(&four(key.id))?;
     out.append(&four(key.router))?;
     push_eight(kept.lsa.body.len() as u64, out)
+}
+
+/// Appends when it was last sent, and what tells an LSA that isn't plain.
+fn push_sent(key: &LsaKey, kept: &Kept, out: &mut Bytes) -> Result<(), AllocError>
+    ensures ok { OnOk result (out.new ≡ out.old ++ sent_image key.now kept.now) }
+    ensures kept { KeepsFront out.old out.new }
+{
+    if is_plain(key, kept) {
+        out.append(&four(one_more(kept.sent) as u32))
+    } else {
+        push_odd(key, kept, out)
+    }
 }
 
 /// Appends an LSA of the database.
