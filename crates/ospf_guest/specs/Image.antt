@@ -62,10 +62,13 @@ is_long l = nat_lt 65535 (length l)
 unfoldable pub count_image : OnPort → List ℕ
 count_image l = if is_long l then eight (length l) else two (length l)
 
--- cost 2, state 1, id 4, heard 4, the list's count 2 and each LSA of it
+-- cost 2, state 1, id 4, heard 4
+unfoldable pub port_front : Port → Bool → List ℕ
+port_front p long = two p.cost ++ (state_byte p.neighbour + 3 * bit long) ∷ heard_image p.neighbour
+
+-- that, the list's count 2 and each LSA of it
 unfoldable pub port_image : Port → OnPort → List ℕ
-port_image p l =
-    two p.cost ++ (state_byte p.neighbour + 3 * bit (is_long l)) ∷ heard_image p.neighbour ++ count_image l ++ flat_map listed_image l
+port_image p l = port_front p (is_long l) ++ count_image l ++ flat_map listed_image l
 
 -- the ports with their lists; there are as many lists as ports
 abbrev pub ports_image : List Port → OnPorts → List ℕ
@@ -110,8 +113,28 @@ kept_image e = four e.1.installed ++ flags_byte e.0 e.1 ∷ sent_image e.0 e.1 +
 unfoldable pub database_image : Database → List ℕ
 database_image db = two (min 65535 (length db)) ++ flat_map kept_image db
 
--- number 2, tick 4, last origination 4, own networks 2 and each, ports 1 and each, the database
+-- ---- the whole
+
+-- number 2, tick 4, the tick after that of the last origination 4, 0 where there was none
+unfoldable pub front_image : ℕ → ℕ → Option ℕ → List ℕ
+front_image number tick originated = two number ++ four tick ++ four (one_more originated)
+
+-- count 2, and each own network
+unfoldable pub networks_image : Networks → List ℕ
+networks_image ns = two (length ns) ++ flat_map network_image ns
+
+-- a router has at most 16 ports, and as many lists
+abbrev pub is_sound : AtPorts → Bool
+is_sound a = nat_le (length a.ports) 16 && length a.lists == length a.ports
+
+-- what tells ports and lists that no router has
+abbrev pub unsound_image : AtPorts → List ℕ
+unsound_image a =
+    (17 + length a.ports) ∷ length a.lists ∷ flat_map (λ p. port_front p false) a.ports ++ flat_map (λ l. length l ∷ flat_map listed_image l) a.lists
+
+-- count 1, and each port with its list
+unfoldable pub interfaces_image : AtPorts → List ℕ
+interfaces_image a = if is_sound a then length a.ports ∷ ports_image a.ports a.lists else unsound_image a
+
 unfoldable pub ospf_image : OspfState → List ℕ
-ospf_image s =
-    two s.number ++ four s.tick ++ four (one_more s.originated) ++ two (length s.prefixes) ++ flat_map network_image s.prefixes
-    ++ length s.interfaces.ports ∷ ports_image s.interfaces.ports s.interfaces.lists ++ database_image s.db
+ospf_image s = front_image s.number s.tick s.originated ++ networks_image s.prefixes ++ interfaces_image s.interfaces ++ database_image s.db

@@ -1,5 +1,5 @@
 -- Lines that tell a reader of neighbours and routes.
-use Rattle.std.specs.Prelude.{ℕ, ◌+◌, ◌/◌, ◌%◌, ◌^◌, ◌==◌, ◌&&◌, Bool, not, nat_le, if◌then◌else◌, List, [], ◌∷◌, ◌++◌, length, filter, flat_map, codes}
+use Rattle.std.specs.Prelude.{ℕ, ◌+◌, ◌/◌, ◌%◌, ◌^◌, ◌==◌, ◌&&◌, Bool, not, nat_le, if◌then◌else◌, List, [], ◌∷◌, ◌++◌, length, flat_map, codes}
 use Rattle.std.specs.List.{range_with_len}
 use Rattle.std.specs.Fmt.{decimal}
 use Rattle.dn_guest.specs.Ports.{is_up}
@@ -29,9 +29,13 @@ address_text address =
     decimal (address / 2 ^ 24) ++ codes "." ++ decimal (address / 2 ^ 16 % 2 ^ 8) ++ codes "."
     ++ decimal (address / 2 ^ 8 % 2 ^ 8) ++ codes "." ++ decimal (address % 2 ^ 8)
 
+-- a space and a port, if it is one of the mask
+abbrev pub port_text : ℕ → ℕ → List ℕ
+port_text mask p = if is_up mask p then 32 ∷ decimal p else []
+
 -- the ports of a mask in ascending order, a space before each
 abbrev pub port_texts : ℕ → List ℕ
-port_texts mask = flat_map (λ p. 32 ∷ decimal p) (filter (is_up mask) (range_with_len 0 16))
+port_texts mask = flat_map (port_text mask) (range_with_len 0 16)
 
 -- a space, and `own` where the route is the router's own, and its ports, with one space between
 unfoldable pub where_text : Bool → ℕ → List ℕ

@@ -4,12 +4,12 @@ ghost use Rattle.std.specs.Prelude.{◌≡◌, ◌++◌, OnOk, ◌≤◌, length
 ghost use Rattle.std.specs.List.{flat_map};
 ghost use Rattle.dn_guest.specs.KeepsFront.{KeepsFront};
 ghost use Rattle.ospf_router.specs.State.{state_of};
-ghost use Rattle.ospf_guest.specs.Image.{eight, four, network_image, one_more, ospf_image, two};
+ghost use Rattle.ospf_guest.specs.Image.{eight, four, front_image, interfaces_image, network_image, networks_image, one_more, ospf_image, two};
 
 use crate::database_image::push_database;
 use crate::ports_image::push_ports;
 use dn_guest::Bytes;
-use ospf_router::Router;
+use ospf_router::{Interfaces, Prefixes, Router};
 use std::alloc::{AllocError, Global};
 
 /// The two bytes of a number, the highest first.
@@ -74,19 +74,49 @@ fn push_networks(networks: &[((u32, u8), u16)], out: &mut Bytes) -> Result<(), A
     Ok(())
 }
 
+/// The ten bytes of the number, the tick, and the tick after that of the last origination.
+#[tactic(auto, unfolding(crate::specs::Image::front_image))]
+fn front_image(number: u16, tick: u16, originated: Option<u16>) -> [u8; 10]
+    ensures { result ≡ front_image number tick originated }
+{
+    let number = two(number);
+    let tick = four(u32::from(tick));
+    let last = four(one_more(originated));
+    [
+        number[0], number[1], tick[0], tick[1], tick[2], tick[3], last[0], last[1], last[2],
+        last[3],
+    ]
+}
+
+/// Appends the own networks behind their number.
+#[tactic(auto, unfolding(crate::specs::Image::networks_image))]
+fn push_prefixes(alloc: Global, prefixes: &Prefixes, out: &mut Bytes) -> Result<(), AllocError>
+    ensures ok { OnOk result (out.new ≡ out.old ++ networks_image prefixes.now) }
+    ensures kept { KeepsFront out.old out.new }
+{
+    let networks = prefixes.entries(alloc)?;
+    out.append(&two(networks.len() as u16))?;
+    push_networks(&networks, out)
+}
+
+/// Appends the ports behind their number.
+#[tactic(auto, unfolding(crate::specs::Image::interfaces_image))]
+fn push_interfaces(interfaces: &Interfaces, out: &mut Bytes) -> Result<(), AllocError>
+    ensures ok { OnOk result (out.new ≡ out.old ++ interfaces_image interfaces.now) }
+    ensures kept { KeepsFront out.old out.new }
+{
+    out.push(interfaces.count())?;
+    push_ports(interfaces, out)
+}
+
 /// Appends the bytes that tell the whole state.
 #[tactic(auto, unfolding(crate::specs::Image::ospf_image))]
 pub fn push_image(alloc: Global, router: &Router, out: &mut Bytes) -> Result<(), AllocError>
     ensures ok { OnOk result (out.new ≡ out.old ++ ospf_image (state_of router.now)) }
     ensures kept { KeepsFront out.old out.new }
 {
-    let networks = router.prefixes.entries(alloc)?;
-    out.append(&two(router.number))?;
-    out.append(&four(u32::from(router.tick)))?;
-    out.append(&four(one_more(router.originated)))?;
-    out.append(&two(networks.len() as u16))?;
-    push_networks(&networks, out)?;
-    out.push(router.interfaces.count())?;
-    push_ports(&router.interfaces, out)?;
+    out.append(&front_image(router.number, router.tick, router.originated))?;
+    push_prefixes(alloc, &router.prefixes, out)?;
+    push_interfaces(&router.interfaces, out)?;
     push_database(&router.db, out)
 }

@@ -5,7 +5,7 @@ ghost use Rattle.std.specs.List.{flat_map};
 ghost use Rattle.dn_guest.specs.KeepsFront.{KeepsFront};
 ghost use Rattle.ospf_flood.specs.Lists.{list_of};
 ghost use Rattle.ospf_router.specs.Interfaces.{port_at};
-ghost use Rattle.ospf_guest.specs.Image.{bit, count_image, four, heard_image, is_long, listed_image, port_image, ports_image, state_byte};
+ghost use Rattle.ospf_guest.specs.Image.{bit, count_image, four, heard_image, is_long, listed_image, port_front, port_image, ports_image, state_byte};
 
 use crate::image::{four, push_eight, two};
 use dn_guest::Bytes;
@@ -77,17 +77,37 @@ fn push_count(entries: &[(LsaKey, u32)], out: &mut Bytes) -> Result<(), AllocErr
     }
 }
 
+/// The eleven bytes of a port's cost and neighbour.
+#[tactic(auto, unfolding(crate::specs::Image::port_front))]
+fn port_front(port: Port, is_long: bool) -> [u8; 11]
+    ensures { result ≡ port_front port is_long }
+{
+    let cost = two(port.cost);
+    let (id, tick) = heard_of(port.neighbour);
+    let id = four(id);
+    let tick = four(u32::from(tick));
+    [
+        cost[0],
+        cost[1],
+        state_byte(port.neighbour, is_long),
+        id[0],
+        id[1],
+        id[2],
+        id[3],
+        tick[0],
+        tick[1],
+        tick[2],
+        tick[3],
+    ]
+}
+
 /// Appends a port and its list.
 #[tactic(auto, unfolding(crate::specs::Image::port_image))]
 fn push_port(port: Port, entries: &[(LsaKey, u32)], out: &mut Bytes) -> Result<(), AllocError>
     ensures ok { OnOk result (out.new ≡ out.old ++ port_image port entries.now) }
     ensures kept { KeepsFront out.old out.new }
 {
-    let (id, tick) = heard_of(port.neighbour);
-    out.append(&two(port.cost))?;
-    out.push(state_byte(port.neighbour, MOST < entries.len()))?;
-    out.append(&four(id))?;
-    out.append(&four(u32::from(tick)))?;
+    out.append(&port_front(port, MOST < entries.len()))?;
     push_count(entries, out)?;
     push_listed(entries, out)
 }

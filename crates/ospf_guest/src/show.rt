@@ -4,7 +4,7 @@ ghost use Rattle.std.specs.Prelude.{◌≡◌, ◌++◌, ◌+◌, ◌≤◌, OnO
 ghost use Rattle.std.specs.List.{flat_map};
 ghost use Rattle.dn_guest.specs.KeepsFront.{KeepsFront};
 ghost use Rattle.ospf_router.specs.State.{state_of};
-ghost use Rattle.ospf_guest.specs.Show.{neighbour_line, neighbour_lines, ospf_show, port_texts, route_front, route_line, route_lines, where_text};
+ghost use Rattle.ospf_guest.specs.Show.{neighbour_line, neighbour_lines, ospf_show, port_text, port_texts, route_front, route_line, route_lines, where_text};
 
 use dn_guest::{Bytes, is_up};
 use dn_text::{Piece, append_all};
@@ -52,15 +52,25 @@ fn push_neighbours(number: u8, ports: &[Port], out: &mut Bytes) -> Result<(), Al
     push_neighbours(number + 1, rest, out)
 }
 
+/// Appends a space and a port, if it is one of the mask.
+fn push_port(mask: u16, port: u8, out: &mut Bytes) -> Result<(), AllocError>
+    ensures ok { OnOk result (out.new ≡ out.old ++ port_text mask port) }
+    ensures kept { KeepsFront out.old out.new }
+{
+    if !is_up(mask, port) {
+        return Ok(());
+    }
+    out.append(b" ")?;
+    append_all(out, &[Piece::Decimal(u64::from(port))])
+}
+
 /// Appends the ports of a mask in ascending order, a space before each.
 fn push_mask(mask: u16, out: &mut Bytes) -> Result<(), AllocError>
     ensures ok { OnOk result (out.new ≡ out.old ++ port_texts mask) }
     ensures kept { KeepsFront out.old out.new }
 {
     for port in 0..PORTS {
-        if is_up(mask, port) {
-            append_all(out, &[Piece::Text(b" "), Piece::Decimal(u64::from(port))])?;
-        }
+        push_port(mask, port, out)?;
     }
     Ok(())
 }

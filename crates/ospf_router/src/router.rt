@@ -81,7 +81,9 @@ impl Router {
     fn same_ticks(&self, other: &Router) -> bool
         ensures { IsTrue result ↔ ((self.now.number ≡ other.now.number) × (self.now.tick ≡ other.now.tick) × (self.now.originated ≡ other.now.originated)) }
     {
-        self.number == other.number && self.tick == other.tick && self.originated == other.originated
+        self.number == other.number
+            && self.tick == other.tick
+            && self.originated == other.originated
     }
 
     /// Whether the states are equal.
