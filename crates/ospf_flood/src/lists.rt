@@ -130,6 +130,14 @@ impl Lists {
         self.ports[usize::from(port)].keys(self.alloc)
     }
 
+    /// The LSAs on the port's list with the ticks at which they were last sent there, in ascending order.
+    pub fn entries(&self, port: u8) -> Result<Vec<(LsaKey, u32)>, AllocError>
+        requires { port < length self.now }
+        ensures { IfOk result (λ entries. entries.items ≡ list_of self.now port) }
+    {
+        self.ports[usize::from(port)].entries(self.alloc)
+    }
+
     /// The names on the port's list that are to be sent again: those that were last sent 5 or more ticks
     /// ago (RFC 2328 section 13.6), in ascending order.
     pub fn due(&self, port: u8, now: u32) -> Result<Vec<LsaKey>, AllocError>

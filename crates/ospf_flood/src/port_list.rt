@@ -100,6 +100,13 @@ impl PortList {
         self.sent.keys().copied().collect(alloc)
     }
 
+    /// The LSAs with the ticks at which they were last sent, in ascending order of the names.
+    pub fn entries(&self, alloc: Global) -> Result<Vec<(LsaKey, u32)>, AllocError>
+        ensures { IfOk result (λ entries. entries.items ≡ self.now) }
+    {
+        all_entries(alloc, &self.sent)
+    }
+
     /// The names of the LSAs that are to be sent again, in ascending order.
     pub fn due(&self, alloc: Global, now: u32) -> Result<Vec<LsaKey>, AllocError>
         ensures { IfOk result (λ keys. keys.items ≡ due now self.now) }
@@ -128,4 +135,18 @@ fn set_tick(sent: &mut BTreeMap<LsaKey, u32>, key: &LsaKey, tick: u32)
     if let Some(last) = sent.get_mut(key) {
         *last = tick;
     }
+}
+
+/// The entries of a map.
+fn all_entries(
+    alloc: Global,
+    sent: &BTreeMap<LsaKey, u32>,
+) -> Result<Vec<(LsaKey, u32)>, AllocError>
+    ensures { IfOk result (λ entries. entries.items ≡ sent.now.entries) }
+{
+    let mut entries = Vec::new(alloc);
+    for (key, tick) in sent {
+        entries.push((*key, *tick))?;
+    }
+    Ok(entries)
 }

@@ -13,6 +13,7 @@ use crate::{Kept, LsaKey};
 use ospf_wire::Lsa;
 use std::alloc::{AllocError, Global};
 use std::collections::BTreeMap;
+use std::collections::btree_map::Iter;
 use std::marker::Model;
 
 /// The database: a finite map from the name of an LSA to the instance that is kept. Contracts see it as
@@ -143,6 +144,13 @@ impl Lsdb {
         ensures ascending { IsStrictlySortedBy key_cmp (keys_of self.now) }
     {
         all_keys(self.alloc, &self.kept)
+    }
+
+    /// The LSAs with their keys, in ascending order of the keys.
+    pub fn iter(&self) -> Iter<'_, LsaKey, Kept>
+        ensures { result ≡ self.now }
+    {
+        self.kept.iter()
     }
 
     /// An equal database.

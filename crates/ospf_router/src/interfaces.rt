@@ -2,13 +2,12 @@
 //! (RFC 2328 sections 9 and 10).
 
 ghost use Rattle.std.specs.Prelude.{◌≡◌, ◌↔◌, ◌+◌, ◌≤◌, ◌<◌, IsTrue, IfOk, OnOk, length, map};
-ghost use Rattle.std.specs.Map.{keys_of};
 ghost use Rattle.dn_guest.specs.Ports.{with_up};
 ghost use Rattle.ospf_flood.specs.Lists.{due, list_of, off_all};
 ghost use Rattle.ospf_flood.specs.Flooding.{flooded, state};
 ghost use Rattle.ospf_flood.specs.Table.{verdict_of};
 ghost use Rattle.ospf_flood.specs.Receiving.{received, step_of};
-ghost use Rattle.ospf_router.specs.Interfaces.{emptied, full_from, full_mask, has_port, is_listed, listed, lowered, neighbour_at, opening_port, opening_ports, unlisted, with_neighbour};
+ghost use Rattle.ospf_router.specs.Interfaces.{emptied, full_from, full_mask, has_port, is_listed, listed, lowered, neighbour_at, opening_port, opening_ports, port_at, unlisted, with_neighbour};
 
 use crate::neighbour::Neighbour;
 use dn_guest::is_up;
@@ -127,6 +126,14 @@ impl Interfaces {
         self.ports.as_slice()
     }
 
+    /// A port.
+    pub fn port(&self, port: u8) -> Port
+        requires { port < length self.now.ports }
+        ensures { result ≡ port_at self.now port }
+    {
+        self.ports[usize::from(port)]
+    }
+
     /// The neighbour at a port.
     pub fn neighbour(&self, port: u8) -> Neighbour
         requires { port < length self.now.ports }
@@ -223,12 +230,12 @@ impl Interfaces {
         self.lists.due(port, now)
     }
 
-    /// The LSAs on a port's list, in ascending order.
-    pub fn listed(&self, port: u8) -> Result<Vec<LsaKey>, AllocError>
+    /// The LSAs on a port's list with the ticks at which they were last sent there, in ascending order.
+    pub fn listed(&self, port: u8) -> Result<Vec<(LsaKey, u32)>, AllocError>
         requires { port < length self.now.ports }
-        ensures { IfOk result (λ keys. keys.items ≡ keys_of (list_of self.now.lists port)) }
+        ensures { IfOk result (λ entries. entries.items ≡ list_of self.now.lists port) }
     {
-        self.lists.keys(port)
+        self.lists.entries(port)
     }
 
     /// Floods an LSA of the database on the ports of a mask: `ospf_flood::flood` on these lists.

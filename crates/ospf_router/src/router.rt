@@ -1,14 +1,15 @@
 //! A router in the middle of a step.
 
-ghost use Rattle.std.specs.Prelude.{◌≡◌, ◌≤◌, IfOk, length};
-ghost use Rattle.ospf_router.specs.State.{id_of, opening, opening_prefixes, router_of};
+ghost use Rattle.std.specs.Prelude.{◌≡◌, ◌↔◌, ◌≤◌, [], IsTrue, IfOk, length};
+ghost use Rattle.ospf_router.specs.State.{id_of, opening, opening_prefixes, router_of, state_of};
 
 use crate::interfaces::Interfaces;
 use crate::prefixes::Prefixes;
 use crate::{OspfSettings, PrefixList};
-use dn_guest::Outbox;
+use dn_guest::{Outbox, Output};
 use ospf_lsdb::Lsdb;
 use std::alloc::{AllocError, Global};
+use std::mem;
 
 /// A router: its state, and what it has put out so far in this step.
 #[derive(Drop)]
@@ -51,6 +52,48 @@ impl Router {
             db: Lsdb::new(alloc),
             out: Outbox::new(alloc),
         })
+    }
+
+    /// What was put out so far; after it nothing was.
+    pub fn take_out(&mut self, alloc: Global) -> Vec<Output>
+        ensures outputs { result.items ≡ self.old.out }
+        ensures router { self.new ≡ record self.old { out = [] } }
+    {
+        mem::replace(&mut self.out, Outbox::new(alloc)).into_vec()
+    }
+
+    /// A router with an equal state, which has put out nothing.
+    pub fn fork(&self, alloc: Global) -> Result<Router, AllocError>
+        ensures { IfOk result (λ made. made ≡ record self.now { out = [] }) }
+    {
+        Ok(Router {
+            number: self.number,
+            tick: self.tick,
+            originated: self.originated,
+            prefixes: self.prefixes.fork()?,
+            interfaces: self.interfaces.fork(alloc)?,
+            db: self.db.fork(alloc)?,
+            out: Outbox::new(alloc),
+        })
+    }
+
+    /// Whether both have the same number and the same ticks.
+    fn same_ticks(&self, other: &Router) -> bool
+        ensures { IsTrue result ↔ ((self.now.number ≡ other.now.number) × (self.now.tick ≡ other.now.tick) × (self.now.originated ≡ other.now.originated)) }
+    {
+        self.number == other.number
+            && self.tick == other.tick
+            && self.originated == other.originated
+    }
+
+    /// Whether the states are equal.
+    pub fn same(&self, other: &Router) -> bool
+        ensures { IsTrue result ↔ (state_of self.now ≡ state_of other.now) }
+    {
+        self.same_ticks(other)
+            && self.prefixes.same(&other.prefixes)
+            && self.interfaces.same(&other.interfaces)
+            && self.db.same(&other.db)
     }
 
     /// The router id: the router's number plus 1.

@@ -149,15 +149,17 @@ least_passes test c (suc n) m e = elim (cases_Bool (test c)) [
       (ap test (sym same) ∙ holds, λ x le h. omega arith))
   | inr fails ↦
       (let later : least_from test (c + 1) n ≡ Some m = ap (λ (b : Bool). cond b (Some c) (least_from test (c + 1) n)) (sym fails) ∙ e in
-      let more = least_passes test (c + 1) n m later in
-      (more.0, λ x le h. elim (cases_lt c x) [
-        | inl lt ↦ more.1 x (omega arith) h
-        | inr ge ↦ absurd (let same : c ≡ x = omega arith in let impossible : true ≡ false = sym h ∙ ap test (sym same) ∙ fails in cc)
-      ]))
+      let more = least_passes test (c + 1) n m later in (
+        more.0,
+        λ x le h. elim (cases_lt c x) [
+          | inl lt ↦ more.1 x (omega arith) h
+          | inr ge ↦ absurd (let same : c ≡ x = omega arith in let impossible : true ≡ false = sym h ∙ ap test (sym same) ∙ fails in cc)
+        ],
+      ))
 ]
 
 cases_least : (test : ℕ → Bool) (c n : ℕ) → (least_from test c n ≡ None) ⊎ ((m : ℕ) × (least_from test c n ≡ Some m))
-cases_least test c n = elim (least_from test c n) as (λ o. (o ≡ None) ⊎ ((m : ℕ) × (o ≡ Some m))) [ | None ↦ inl refl | Some m ↦ inr (m, refl) ]
+cases_least test c n = elim (least_from test c n) as (λ o. (o ≡ None) ⊎ ((m : ℕ) × (o ≡ Some m))) [ None ↦ inl refl | Some m ↦ inr (m, refl) ]
 
 least_there : (test : ℕ → Bool) (c n d : ℕ) → c ≤ d → d < c + n → test d ≡ true → (m : ℕ) × (least_from test c n ≡ Some m)
 least_there test c zero d le lt h = absurd (omega arith)
@@ -228,11 +230,10 @@ module _ (g : List Vertex) (root : ℕ) where
           λ gives. given_there g root p n c is_start [] gives refl,
         );
         via = λ q lt.
-          let bit = ports_bit (λ (k : ℕ). is_given g root p n (begins_at k) c) 0 ports q q (omega arith) (omega arith) in
-          (
-            λ h. let w = given_found g root p n c (begins_at q) (bit.0 h) in first_edge w.0 p n c q w.1 w.2,
-            λ e. bit.1 (given_there g root p n c (begins_at q) (e.0 ∷ e.1) e.2 (eq-eqb e.0.link.data (q + 1) e.3)),
-          );
+            let bit = ports_bit (λ (k : ℕ). is_given g root p n (begins_at k) c) 0 ports q q (omega arith) (omega arith) in (
+              λ h. let w = given_found g root p n c (begins_at q) (bit.0 h) in first_edge w.0 p n c q w.1 w.2,
+              λ e. bit.1 (given_there g root p n c (begins_at q) (e.0 ∷ e.1) e.2 (eq-eqb e.0.link.data (q + 1) e.3)),
+            );
       }
 
   -- the route to a network is one, of this network
@@ -243,8 +244,7 @@ module _ (g : List Vertex) (root : ℕ) where
     | inr m ↦
         (let h : Some (route_at g root ports p n m.0) ≡ Some r = ap (option_map (route_at g root ports p n)) (sym m.1) ∙ e in
         let same : route_at g root ports p n m.0 ≡ r = cc in
-        let l = least_passes (is_given g root p n (λ es. true)) 0 costs m.0 m.1 in
-        (
+        let l = least_passes (is_given g root p n (λ es. true)) 0 costs m.0 m.1 in (
           subst (λ (x : Route). IsRoute g root x) same (route_is ports p n m.0 some l.0 l.1),
           ap (λ (x : Route). x.prefix) (sym same),
           ap (λ (x : Route). x.len) (sym same),
@@ -287,14 +287,13 @@ rising_cons (Some y) rs before rising = (before y refl, rising)
 rising_append : (xs ys : List Route) → Rising xs → Rising ys → ((x y : Route) → Contains xs x → Contains ys y → IsBefore x y) → Rising (xs ++ ys)
 unfolding Rising
 rising_append [] ys a b before = b
-rising_append (r ∷ xs) ys a b before =
-    (
-      λ x i. elim (Contains-append_cases xs ys x i) [
-        | inl j ↦ a.0 x j
-        | inr j ↦ before r x (0, omega arith, refl) j
-      ],
-      rising_append xs ys a.1 b (λ x y i j. before x y (in_tail r x xs i) j),
-    )
+rising_append (r ∷ xs) ys a b before = (
+  λ x i. elim (Contains-append_cases xs ys x i) [
+    | inl j ↦ a.0 x j
+    | inr j ↦ before r x (0, omega arith, refl) j
+  ],
+  rising_append xs ys a.1 b (λ x y i j. before x y (in_tail r x xs i) j),
+)
 
 ascending : (rs : List Route) → Rising rs → AreAscending rs
 unfolding Rising
@@ -389,18 +388,18 @@ module _ (g : List Vertex) (root ports prefixes costs : ℕ) (some : ports ≡ 1
   are_routes rs are wide = record {
     each = λ k d lt. (each_is (get_or table k d) (Contains-get_or table k d lt)).0;
     all = λ es p n c gives.
-      let old = are.all es p n c gives in
-      let r = old.0 in
-      let w = All-contains (IsWide prefixes costs) rs r wide old.1 in
-      let is = All-contains (IsRoute g root) rs r are.each old.1 in
-      let prefix : r.prefix ≡ p = old.2 in
-      let len : r.len ≡ n = old.3 in
-      let there : Gives g root is.walk.0 p n r.cost = subst (λ (k : ℕ). Gives g root is.walk.0 k n r.cost) prefix (subst (λ (k : ℕ). Gives g root is.walk.0 r.prefix k r.cost) len is.walk.1) in
-      let new = to_there g root ports costs p n r.cost is.walk.0 there w.1 in
-      let within : n ≤ 32 = gives.gives.within in
-      let small : p < 0 + prefixes = (let lt : r.prefix < prefixes = w.0 in omega arith) in
-      let at = at_network p n new.0 new.1 in
-      (new.0, all_there (route_to g root ports costs) at_network 33 0 prefixes p n new.0 (omega arith) small (omega arith) new.1, at.0, at.1);
+        let old = are.all es p n c gives in
+        let r = old.0 in
+        let w = All-contains (IsWide prefixes costs) rs r wide old.1 in
+        let is = All-contains (IsRoute g root) rs r are.each old.1 in
+        let prefix : r.prefix ≡ p = old.2 in
+        let len : r.len ≡ n = old.3 in
+        let there : Gives g root is.walk.0 p n r.cost = subst (λ (k : ℕ). Gives g root is.walk.0 k n r.cost) prefix (subst (λ (k : ℕ). Gives g root is.walk.0 r.prefix k r.cost) len is.walk.1) in
+        let new = to_there g root ports costs p n r.cost is.walk.0 there w.1 in
+        let within : n ≤ 32 = gives.gives.within in
+        let small : p < 0 + prefixes = (let lt : r.prefix < prefixes = w.0 in omega arith) in
+        let at = at_network p n new.0 new.1 in
+        (new.0, all_there (route_to g root ports costs) at_network 33 0 prefixes p n new.0 (omega arith) small (omega arith) new.1, at.0, at.1);
     order = ascending table (all_rises (route_to g root ports costs) at_network 33 0 prefixes);
   }
 

@@ -48,8 +48,7 @@ fn routes_over(alloc: Global, graph: &[Vertex], root: u32) -> Result<Vec<Route>,
 /// The fields of a route have the width of their types.
 fn see_width(route: Route)
     ensures { IsWide (2 ^ 32) (2 ^ 32) route }
-{
-}
+{}
 
 /// The same of each of these; nothing is done.
 fn see_widths(routes: &[Route])
