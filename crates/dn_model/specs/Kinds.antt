@@ -8,7 +8,7 @@ use Rattle.dn_model.specs.declared.router.Prefix.{Prefix}
 -- the guest of this kind is built: a case may have such routers
 abbrev pub is_built : Kind → Bool
 is_built kind.Flood = true
-is_built kind.Ospf = false
+is_built kind.Ospf = true
 is_built kind.Rip = true
 
 -- the costs of a prefix: none at a flooding router, which has no prefix

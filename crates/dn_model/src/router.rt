@@ -23,7 +23,7 @@ impl Kind {
     {
         match self {
             Kind::Flood => true,
-            Kind::Ospf => false,
+            Kind::Ospf => true,
             Kind::Rip => true,
         }
     }

@@ -69,7 +69,6 @@ fn routers(rt: HostRuntime) -> Result<(), Fail> {
 link a b 1 1|5 syntax
 prefix a 10.0.0.0/8 1|5 syntax
 router a bgp|5 syntax
-router a ospf|5 syntax
 router a Rip|5 syntax
 router 1a flood|5 syntax
 router A flood|5 syntax
