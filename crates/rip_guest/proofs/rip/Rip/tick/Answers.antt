@@ -1,4 +1,4 @@
-use Rattle.std.proofs.Common.{◌≡◌, ◌++◌, arith}
+use Rattle.std.proofs.Common.{arith}
 use Rattle.std.proofs.lemmas.Grind.{common_steps}
 use Rattle.rip_guest.proofs.rip.Rip.tick.Goals as goal
 use Rattle.rip_guest.proofs.rip.Rip.tick.Goals.{then-group-eq0+in_ok-put_requests, else-group-eq0}
