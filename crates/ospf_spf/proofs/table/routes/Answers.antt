@@ -1,9 +1,8 @@
-use Rattle.std.proofs.Common.{◌≡◌, ◌^◌, List, ap, ◌∙◌, subst, sym}
+use Rattle.std.proofs.Common.{◌≡◌, ◌^◌, List, ap, ◌∙◌, subst}
 use Rattle.std.specs.List.{All}
 use Rattle.ospf_spf.specs.declared.graph.Vertex.{Vertex}
 use Rattle.ospf_spf.specs.declared.route.Route.{Route}
 use Rattle.ospf_spf.specs.Graph.{graph_of}
-use Rattle.ospf_spf.specs.Routes.{AreRoutes}
 use Rattle.ospf_spf.specs.Table.{IsWide, table_of}
 use Rattle.ospf_spf.proofs.Tabling.{table_is}
 use Rattle.ospf_spf.proofs.table.routes.Goals as goal
