@@ -1,5 +1,5 @@
 -- What the commands write of an input, and which statuses they answer.
-use Rattle.std.specs.Prelude.{◌≡◌, ◌⊎◌, ℕ, ◌+◌, ◌≤◌, ◌<◌, Bool, true, false, List, [], ◌++◌, length, drop, Option}
+use Rattle.std.specs.Prelude.{◌≡◌, ◌⊎◌, ℕ, ◌+◌, ◌≤◌, ◌<◌, Bool, true, false, List, ◌++◌, length, drop, Option}
 use Rattle.dn_io.specs.Streams.{behind, PutsFront}
 use Rattle.dn_model.specs.Cases.{Heading, Recording}
 use Rattle.dn_model.specs.Network.{Network}
