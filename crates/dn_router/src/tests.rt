@@ -298,7 +298,10 @@ fn is_idle(router: &Router<Flood>) -> bool
     ensures todo { IsTrue result → router.now.part.todo ≡ [] }
     ensures voids { IsTrue result → router.now.part.voids ≡ [] }
 {
-    router.least().is_none() && router.voids().is_empty()
+    match router.least() {
+        Some(_) => false,
+        None => router.voids().is_empty(),
+    }
 }
 
 /// The places of the rows that are committed below one key, and then below another: None where something
