@@ -140,10 +140,12 @@ none_handled p = each p.voids (λ v h. h)
   where
     each : (vs : List Event) → ((v : Event) → stands v vs ≡ true → stands v p.voids ≡ true) → AllByRecursion (λ v. stands v (until (is_wrong p) p.done) ≡ false) vs
     each [] h = tt
-    each (v ∷ vs) h =
-        (by_test (stands v (until (is_wrong p) p.done))
-        (λ g. absurd (both_ways (stands v p.voids) (stands_all (λ e. stands e p.voids ≡ false) v (until (is_wrong p) p.done) g (stay_right p p.done)) (h v (stands_first v vs))))
-        (λ g. g), each vs (λ x k. h x (stands_later x v vs k)))
+    each (v ∷ vs) h = (
+      by_test (stands v (until (is_wrong p) p.done))
+          (λ g. absurd (both_ways (stands v p.voids) (stands_all (λ e. stands e p.voids ≡ false) v (until (is_wrong p) p.done) g (stay_right p p.done)) (h v (stands_first v vs))))
+          (λ g. g),
+      each vs (λ x k. h x (stands_later x v vs k)),
+    )
 
 -- how many are below a key, where so many stand in front
 pub count_is : (key : Key) (seen done : List Event) (count : ℕ) → seen ≡ done → count ≤ length seen → below key seen ≡ take count seen → length (below key done) ≡ count

@@ -119,11 +119,7 @@ impl<G: Guest> Outcome<G> {
 }
 
 /// Runs the node over the events, and gives the numbered outputs of the last of them.
-fn run<G: Guest>(
-    alloc: Global,
-    node: &mut Node<G>,
-    events: &[Event],
-) -> Result<Vec<Sent>, NoMemory>
+fn run<G: Guest>(alloc: Global, node: &mut Node<G>, events: &[Event]) -> Result<Vec<Sent>, NoMemory>
     ensures node { OnOk result (node.new ≡ node_over G.meaning node.old events.now) }
     ensures sent { IfOk result (λ sent. sent.items ≡ last_sent G.meaning node.old [] events.now) }
 {

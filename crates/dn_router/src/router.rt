@@ -143,7 +143,11 @@ impl<G: Guest> Router<G> {
             Some(least) => least,
             None => unreachable!(),
         };
-        let inputs = copies_and(self.alloc, rest(self.done.as_slice(), place as usize), least)?;
+        let inputs = copies_and(
+            self.alloc,
+            rest(self.done.as_slice(), place as usize),
+            least,
+        )?;
         Ok(Order {
             alloc: self.alloc,
             router: self.number,
@@ -181,13 +185,7 @@ impl<G: Guest> Router<G> {
             Some(least) => least,
             None => unreachable!(),
         };
-        let events = emitted_by(
-            self.alloc,
-            &self.timing,
-            self.ends.as_slice(),
-            least,
-            sent,
-        )?;
+        let events = emitted_by(self.alloc, &self.timing, self.ends.as_slice(), least, sent)?;
         self.done.reserve(1)?;
         self.shelf.keep(self.done.len() as u64 + 1, node)?;
         move_least(&mut self.queue, &mut self.done);

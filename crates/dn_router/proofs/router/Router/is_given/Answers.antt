@@ -30,9 +30,10 @@ pub returns-then-outcome-place : goal.returns-then-outcome-place
 returns-then-outcome-place g c =
     let m = g.G.Guest.meaning in
     let done = c.self.inside.done.items in
-    let at = base_last m c.self.inside.opening done c.len.result c.self.inside.shelf c.base_for-place.result.0 c.base_for-place.result.1.now (c.len.ensures ∙ c.self.inside.done.ok.0) c.self.invariant.kept c.base_for-place.ensures.place c.base_for-place.ensures.node in
-    (λ t. absurd (false≢true t),
-     λ e. absurd (c.if-outcome-place.true (ap (λ t. t.place) (c.outcome.view_is ∙ e) ∙ sym (ap (λ s. length s.part.done) c.self.view_is) ∙ sym at.0)))
+    let at = base_last m c.self.inside.opening done c.len.result c.self.inside.shelf c.base_for-place.result.0 c.base_for-place.result.1.now (c.len.ensures ∙ c.self.inside.done.ok.0) c.self.invariant.kept c.base_for-place.ensures.place c.base_for-place.ensures.node in (
+      λ t. absurd (false≢true t),
+      λ e. absurd (c.if-outcome-place.true (ap (λ t. t.place) (c.outcome.view_is ∙ e) ∙ sym (ap (λ s. length s.part.done) c.self.view_is) ∙ sym at.0)),
+    )
 
 pub returns : goal.returns
 returns g c =
@@ -43,11 +44,12 @@ returns g c =
     let since : c.rest-since.result.now ≡ drop c.outcome.inside.place done =
     c.rest-since.ensures ∙ (λ i. drop (sym c.if-outcome-place.false i) (c.as_slice.ensures.value i)) in
     let inputs : c.outcome.inside.inputs.items ≡ drop c.outcome.inside.place done ++ c.in-Some.least.now ∷ [] =
-    sym c.as_slice-2.ensures.value ∙ c.are_and.ensures.0 c.if-not-are_and.false ∙ ap (λ (l : List Event). l ++ c.in-Some.least.now ∷ []) since in
-    (λ t.
-      sym c.outcome.view_is
-      ∙ order_parts m s c.outcome.inside.router c.outcome.inside.place c.outcome.inside.base c.outcome.inside.inputs.items c.in-Some.least.now
-      (ap (λ t. t.router) c.outcome.view_is ∙ c.requires.own ∙ sym (ap (λ s. s.number) c.self.view_is))
-      (c.if-outcome-place.false ∙ at.0) (c.same.ensures.0 t ∙ at.1) c.in-Some.ensures inputs
-      ∙ ap (order_of m) c.self.view_is,
-     λ e. c.same.ensures.1 (ap (λ t. t.base) (c.outcome.view_is ∙ e ∙ sym (ap (order_of m) c.self.view_is)) ∙ order_base m s ∙ sym at.1))
+    sym c.as_slice-2.ensures.value ∙ c.are_and.ensures.0 c.if-not-are_and.false ∙ ap (λ (l : List Event). l ++ c.in-Some.least.now ∷ []) since in (
+      λ t.
+          sym c.outcome.view_is
+          ∙ order_parts m s c.outcome.inside.router c.outcome.inside.place c.outcome.inside.base c.outcome.inside.inputs.items c.in-Some.least.now
+          (ap (λ t. t.router) c.outcome.view_is ∙ c.requires.own ∙ sym (ap (λ s. s.number) c.self.view_is))
+          (c.if-outcome-place.false ∙ at.0) (c.same.ensures.0 t ∙ at.1) c.in-Some.ensures inputs
+          ∙ ap (order_of m) c.self.view_is,
+      λ e. c.same.ensures.1 (ap (λ t. t.base) (c.outcome.view_is ∙ e ∙ sym (ap (order_of m) c.self.view_is)) ∙ order_base m s ∙ sym at.1),
+    )
