@@ -41,7 +41,7 @@ fields_plain (Version n) h = (refl, (number_free 10 n (omega arith) h, tt))
 fields_plain (Period n) h = (refl, (number_free 10 n (omega arith) h, tt))
 fields_plain (Groups n) h = (refl, (number_free 10 n (omega arith) h, tt))
 fields_plain (Seed n) h = (refl, (number_free 10 n (omega arith) h, tt))
-fields_plain (Router name kind) h = (refl, (name_free 10 name (omega arith) h.0, (kind_plain kind, tt)))
+fields_plain (Router name kind) h = (refl, (name_free 10 name (omega arith) h, (kind_plain kind, tt)))
 fields_plain (Link a b delay cost) h = (refl, (name_free 10 a (omega arith) h.0, (name_free 10 b (omega arith) h.1, (number_free 10 delay (omega arith) h.2, (number_free 10 cost (omega arith) h.3, tt)))))
 fields_plain (Prefix name net cost) h = (refl, (name_free 10 name (omega arith) h.0, (net_plain net h.1, (number_free 10 cost (omega arith) h.2, tt))))
 fields_plain Feed h = (refl, tt)
@@ -54,12 +54,17 @@ is_false : (b : Bool) → not b ≡ true → b ≡ false
 is_false true p = cc
 is_false false p = refl
 
-line_then : (f rest : List ℕ) → free 10 f ≡ true → lines (f ++ 10 ∷ rest) ≡ (f ++ 10 ∷ []) ∷ lines rest
+pub line_then : (f rest : List ℕ) → free 10 f ≡ true → lines (f ++ 10 ∷ rest) ≡ (f ++ 10 ∷ []) ∷ lines rest
 line_then [] rest h = refl
 line_then (c ∷ f) rest h =
     let k = each_true (not (eqb c 10)) (free 10 f) h in
     let other : eqb c 10 ≡ false = is_false (eqb c 10) k.0 in
     rw (other, line_then f rest k.1) refl
+
+-- a spelled line is a text without a newline, and a newline
+pub spelled_is : (l : Line) → IsSpellable l → (text : List ℕ) × (spelled l ≡ text ++ 10 ∷ []) × (free 10 text ≡ true)
+unfolding spelled
+spelled_is l h = (join_with_byte 32 (fields_of l), refl, free_join 10 32 (fields_of l) refl (fields_plain l h))
 
 spelled_then : (l : Line) (rest : List ℕ) → IsSpellable l → lines (spelled l ++ rest) ≡ spelled l ∷ lines rest
 unfolding spelled
@@ -82,7 +87,7 @@ all_joined (x ∷ xs) ys p q = (p.0, all_joined xs ys p.1 q)
 
 routers_spellable : (before rs : List RouterDef) → AreRouters before rs → AllByRecursion IsSpellable (map router_line rs)
 routers_spellable before [] h = tt
-routers_spellable before (r ∷ rs) h = ((h.0.named, h.0.kind), routers_spellable (before ++ r ∷ []) rs h.1)
+routers_spellable before (r ∷ rs) h = (h.0.named, routers_spellable (before ++ r ∷ []) rs h.1)
 
 links_spellable : (rs : List RouterDef) (before ls : List LinkDef) → AreRouters [] rs → AreLinks (length rs) before ls → AllByRecursion IsSpellable (map (link_line rs) ls)
 links_spellable rs before [] named h = tt

@@ -13,6 +13,7 @@ pub mod OneCase
 pub mod Fields
 pub mod Spelled
 pub mod RoundTrip
+pub mod ExternalLines
 pub mod PrefixLeads
 pub mod CaseAgain
 pub mod Fronts

@@ -77,7 +77,7 @@ names_append xs ys zs same =
 pub same_before : (b c rs : List RouterDef) → map (λ r. r.name) b ≡ map (λ r. r.name) c → AreRouters b rs → AreRouters c rs
 same_before b c [] same h = tt
 same_before b c (r ∷ rs) same h =
-    let is : IsRouter c r = record { named = h.0.named; apart = same_number c b r.name (sym same) ∙ h.0.apart; kind = h.0.kind; few_prefixes = h.0.few_prefixes; prefixes = h.0.prefixes } in
+    let is : IsRouter c r = record { named = h.0.named; apart = same_number c b r.name (sym same) ∙ h.0.apart; few_prefixes = h.0.few_prefixes; prefixes = h.0.prefixes } in
     (is, same_before (b ++ r ∷ []) (c ++ r ∷ []) rs (names_append b c (r ∷ []) same) h.1)
 
 -- ---- one more prefix
@@ -95,7 +95,7 @@ length_with_prefix (r ∷ rs) (suc i) p = ap suc (length_with_prefix rs i p)
 
 router_more : (before : List RouterDef) (r : RouterDef) (p : Prefix) → IsRouter before r → IsPrefix r.kind r.prefixes p → length r.prefixes < 32 → IsRouter before (and_prefix r p)
 router_more before r p h is few =
-    record { named = h.named; apart = h.apart; kind = h.kind; few_prefixes = omega (arith, few, length-append r.prefixes (p ∷ [])); prefixes = prefixes_more r.kind [] r.prefixes p h.prefixes is }
+    record { named = h.named; apart = h.apart; few_prefixes = omega (arith, few, length-append r.prefixes (p ∷ [])); prefixes = prefixes_more r.kind [] r.prefixes p h.prefixes is }
 
 pub routers_with_prefix : (before rs : List RouterDef) (i : ℕ) (p : Prefix) → i < length rs → AreRouters before rs → IsPrefix (get_or rs i nobody).kind (get_or rs i nobody).prefixes p → length (get_or rs i nobody).prefixes < 32 → AreRouters before (with_prefix rs i p)
 unfolding with_prefix

@@ -111,7 +111,7 @@ length_bares (r ∷ rs) = ap suc (length_bares rs)
 pub are_bare : (before b rs : List RouterDef) → map (λ r. r.name) before ≡ map (λ r. r.name) b → AreRouters before rs → AreRouters b (bares rs)
 are_bare before b [] same h = tt
 are_bare before b (r ∷ rs) same h =
-    let is : IsRouter b (bare r) = record { named = h.0.named; apart = same_number b before r.name (sym same) ∙ h.0.apart; kind = h.0.kind; few_prefixes = omega arith; prefixes = tt } in
+    let is : IsRouter b (bare r) = record { named = h.0.named; apart = same_number b before r.name (sym same) ∙ h.0.apart; few_prefixes = omega arith; prefixes = tt } in
     (is, are_bare (before ++ r ∷ []) (b ++ bare r ∷ []) rs (names_joined before (r ∷ []) ∙ ap (λ (names : List (List ℕ)). names ++ r.name ∷ []) same ∙ sym (names_joined b (bare r ∷ []))) h.1)
 
 pub routers_lead : (p : Place) (s : Standing) (before rs : List RouterDef) → may_follow p place.Router ≡ true → (rs ≡ [] → p ≡ place.Router) → AreRouters before (bares rs) → length (before ++ bares rs) ≤ 64 →
@@ -123,7 +123,7 @@ routers_lead p s before (r ∷ rs) m last are few =
     let short : length before < 64 = omega (arith, few, length-append before (bare r ∷ bares rs)) in
     let regrouped : (before ++ bare r ∷ []) ++ bares rs ≡ before ++ bare r ∷ bares rs = append_assoc before (bare r ∷ []) (bares rs) in
     let more = routers_lead place.Router s (before ++ bare r ∷ []) rs refl (λ _. refl) are.1 (rw regrouped few) in
-    let read : read_line (at p before s) (spelled (router_line r)) ≡ Ok (after (at p before s) (router_line r)) = reads_on (at p before s) (router_line r) (are.0.named, are.0.kind) m (router_free p s before r are.0.apart short) in
+    let read : read_line (at p before s) (spelled (router_line r)) ≡ Ok (after (at p before s) (router_line r)) = reads_on (at p before s) (router_line r) are.0.named m (router_free p s before r are.0.apart short) in
     (at place.Router (before ++ bare r ∷ []) s, read, subst (λ (x : List RouterDef). Leads (at place.Router (before ++ bare r ∷ []) s) (map spelled (map router_line rs)) (at place.Router x s)) regrouped more)
 
 pub not_none : (rs : List RouterDef) → 1 ≤ length rs → rs ≡ [] → place.Seed ≡ place.Router
@@ -327,13 +327,13 @@ external_spellable ports g name (input.Up port) small named few h = (small, name
 external_spellable ports g name (input.Tick group) small named few h = absurd h
 external_spellable ports g name (input.Msg port body) small named few h = absurd h
 
-external_free : (p : Place) (s : Standing) (before : List ExternalDef) (x : ExternalDef) → IsHeading (case_of s).header → IsExternal (case_of s).header (last_group 0 before) x → first_of (table (with_feed p before s) (external_line s.routers x)) ≡ None
+pub external_free : (p : Place) (s : Standing) (before : List ExternalDef) (x : ExternalDef) → IsHeading (case_of s).header → IsExternal (case_of s).header (last_group 0 before) x → first_of (table (with_feed p before s) (external_line s.routers x)) ≡ None
 external_free p s before x h k =
     let m = read_again s.routers x.router h.routers k.router in
     let few = ports_few (length s.routers) x.router s.links h.links in
     rw (lt_true x.group s.groups k.group, asked_fits (ports_of s.links x.router) x.input few k.asked, m.number, lt_false x.group (last_group 0 before) k.rises, asked_port (ports_of s.links x.router) x.input k.asked) refl
 
-external_is : (p : Place) (s : Standing) (before : List ExternalDef) (x : ExternalDef) → IsHeading (case_of s).header → IsExternal (case_of s).header (last_group 0 before) x → after (with_feed p before s) (external_line s.routers x) ≡ with_feed place.External (before ++ x ∷ []) s
+pub external_is : (p : Place) (s : Standing) (before : List ExternalDef) (x : ExternalDef) → IsHeading (case_of s).header → IsExternal (case_of s).header (last_group 0 before) x → after (with_feed p before s) (external_line s.routers x) ≡ with_feed place.External (before ++ x ∷ []) s
 external_is p s before x h k =
     let m = read_again s.routers x.router h.routers k.router in
     rw (m.number, asked_again (ports_of s.links x.router) x.input k.asked) refl

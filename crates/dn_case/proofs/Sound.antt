@@ -11,7 +11,7 @@ use Rattle.dn_model.specs.declared.router.Prefix.{Prefix as PrefixDef}
 use Rattle.dn_model.specs.declared.link.Link.{Link as LinkDef}
 use Rattle.dn_model.specs.declared.feed.External.{External as ExternalDef}
 use Rattle.dn_model.specs.Names.{is_name}
-use Rattle.dn_model.specs.Kinds.{is_built, IsPrefix}
+use Rattle.dn_model.specs.Kinds.{IsPrefix}
 use Rattle.dn_model.specs.Routers.{number_of}
 use Rattle.dn_model.specs.Links.{ports_of}
 use Rattle.dn_model.specs.Cases.{Heading, Recording, IsRouter, AreRouters, IsLink, AreLinks, IsAsked, IsExternal, AreExternals, IsHeading, IsRecording}
@@ -155,12 +155,12 @@ no_feed h xs none = subst (λ (x : List ExternalDef). AreExternals h 0 x) (sym n
 few_none : (ls : List LinkDef) → ls ≡ [] → length ls ≤ 256
 few_none ls none = subst (λ (x : List LinkDef). length x ≤ 256) (sym none) (omega arith)
 
-router_sound : (s : Standing) (name : List ℕ) (k : Kind) → IsOpen (case_of s) → (is_name name ≡ true) × (is_built k ≡ true) → first_of (table s (Router name k)) ≡ None → Sound place.Router (case_of (after s (Router name k)))
+router_sound : (s : Standing) (name : List ℕ) (k : Kind) → IsOpen (case_of s) → is_name name ≡ true → first_of (table s (Router name k)) ≡ None → Sound place.Router (case_of (after s (Router name k)))
 router_sound s name k open_ shape free =
     let twice = free_test (is_known s name) cause.Twice _ free in
     let many = free_test (nat_le 64 (length s.routers)) cause.Many _ twice.1 in
     let r : RouterDef = record { name = name; kind = k; prefixes = [] } in
-    let is : IsRouter s.routers r = record { named = shape.0; apart = unknown_is (number_of s.routers name) twice.0; kind = shape.1; few_prefixes = omega arith; prefixes = tt } in
+    let is : IsRouter s.routers r = record { named = shape; apart = unknown_is (number_of s.routers name) twice.0; few_prefixes = omega arith; prefixes = tt } in
     let small = is_below 64 (length s.routers) many.0 in
     let long = length-append s.routers (r ∷ []) in (
       record {
@@ -323,8 +323,10 @@ asked_is ports group name (Cmd hex) shape fits has =
 asked_is ports group name (Down port) shape fits has = is_below ports (value port) has
 asked_is ports group name (Up port) shape fits has = is_below ports (value port) has
 
-external_sound : (s : Standing) (group : Number) (name : List ℕ) (a : Ask) → IsRecording (case_of s) → IsWell (External group name a) → first_of (table s (External group name a)) ≡ None → Sound place.External (case_of (after s (External group name a)))
-external_sound s group name a h shape free =
+-- an external that has no cause meets the rules
+pub new_external : (s : Standing) (group : Number) (name : List ℕ) (a : Ask) → IsWell (External group name a) → first_of (table s (External group name a)) ≡ None →
+    IsExternal (case_of s).header (last_group 0 s.feed) (record { group = value group; router = number_at s name; input = input_of a })
+new_external s group name a shape free =
     let range = free_test (not (below s.groups group && ask_fits a)) cause.Range _ free in
     let unknown = free_test (not (is_known s name)) cause.Name _ range.1 in
     let order = free_test (nat_lt (value group) (last_group 0 s.feed)) cause.Order _ unknown.1 in
@@ -332,14 +334,17 @@ external_sound s group name a h shape free =
     let ranges = both (below s.groups group) (ask_fits a) (held _ range.0) in
     let known = held (is_known s name) unknown.0 in
     let i = known_is (number_of s.routers name) known in
-    let x : ExternalDef = record { group = value group; router = number_at s name; input = input_of a } in
-    let is : IsExternal (case_of s).header (last_group 0 s.feed) x = record {
+    record {
       rises = is_above (value group) (last_group 0 s.feed) order.0;
       group = under s.groups group ranges.0;
       router = (numbered s.routers name _ i).inside;
       asked = subst (λ (n : ℕ). IsAsked n (input_of a)) (port_is s name known) (asked_is (ports_at s name) group name a shape ranges.1 port.0);
-    } in
-    record { header = h.header; feed = externals_more (case_of s).header 0 s.feed x h.feed is }
+    }
+
+external_sound : (s : Standing) (group : Number) (name : List ℕ) (a : Ask) → IsRecording (case_of s) → IsWell (External group name a) → first_of (table s (External group name a)) ≡ None → Sound place.External (case_of (after s (External group name a)))
+external_sound s group name a h shape free =
+    let x : ExternalDef = record { group = value group; router = number_at s name; input = input_of a } in
+    record { header = h.header; feed = externals_more (case_of s).header 0 s.feed x h.feed (new_external s group name a shape free) }
 
 -- ---- a line, and lines
 

@@ -5,13 +5,12 @@ use Rattle.std.specs.Cmp.Lexicographic.{pointwise, bytes_decides}
 use Rattle.std.proofs.lemmas.List.{take_at, drop_at, length-append}
 use Rattle.dn_model.specs.declared.router.Kind.{Kind}
 use Rattle.dn_model.specs.declared.router.Kind.TheVariants as kind
-use Rattle.dn_model.specs.Kinds.{is_built}
 use Rattle.dn_text.specs.declared.decimals.Number.{Number}
 use Rattle.dn_text.specs.declared.decimals.Number.TheVariants.{Is, Beyond}
 use Rattle.dn_text.specs.Decimals.{numeral_of}
 use Rattle.dn_text.specs.Lines.{parts}
 use Rattle.dn_case.specs.declared.shape.Net.{Net}
-use Rattle.dn_case.specs.Shapes.{Cmd, Down, Up, Line, Version, Period, Groups, Seed, Router, Link, Prefix, Feed, External, End, ◌>>=◌, kind_of_word, kind_of, address_of, net_of_parts, net_of, ask_of, one_field, two_fields, three_fields, four_fields, five_fields, line_of_fields, before_newline, line_of}
+use Rattle.dn_case.specs.Shapes.{Cmd, Down, Up, Line, Version, Period, Groups, Seed, Router, Link, Prefix, Feed, External, End, ◌>>=◌, kind_of, address_of, net_of_parts, net_of, ask_of, one_field, two_fields, three_fields, four_fields, five_fields, line_of_fields, before_newline, line_of}
 use Rattle.dn_case.specs.Spelling.{digits, IsSmall, kind_word, address_text, net_text, fields_of, spelled, AreSmall, IsSpellable}
 use Rattle.dn_case.proofs.Fields.{free, free-append, part_then, part_last, decimal_free, name_free, hex_free}
 use Rattle.dn_text.proofs.DecimalLaws.{decimal_again}
@@ -27,7 +26,7 @@ parts_join s x (y ∷ xs) h all = part_then s x (join_with_byte s (y ∷ xs)) h 
 own : (text : List ℕ) → pointwise nat_eq text text ≡ true
 own text = (bytes_decides text text).1 refl
 
-newline_again : (text : List ℕ) → before_newline (text ++ 10 ∷ []) ≡ Some text
+pub newline_again : (text : List ℕ) → before_newline (text ++ 10 ∷ []) ≡ Some text
 unfolding before_newline
 newline_again text =
     let width : length (text ++ 10 ∷ []) - 1 ≡ length text = omega (arith, length-append text (10 ∷ [])) in
@@ -41,14 +40,11 @@ pub number_free : (s : ℕ) (x : Number) → s < 48 → IsSmall x → free s (di
 number_free s (Is n) low small = decimal_free s n low small
 number_free s Beyond low small = absurd small
 
-word_again : (k : Kind) → kind_of_word (kind_word k) ≡ Some k
-word_again kind.Flood = refl
-word_again kind.Ospf = refl
-word_again kind.Rip = refl
-
-kind_again : (k : Kind) → is_built k ≡ true → kind_of (kind_word k) ≡ Some k
+kind_again : (k : Kind) → kind_of (kind_word k) ≡ Some k
 unfolding kind_of
-kind_again k h = rw (word_again k, h) refl
+kind_again kind.Flood = refl
+kind_again kind.Ospf = refl
+kind_again kind.Rip = refl
 
 kind_free : (k : Kind) → free 32 (kind_word k) ≡ true
 kind_free kind.Flood = refl
@@ -100,7 +96,7 @@ said_again (Version n) h = rw (number_again n h) refl
 said_again (Period n) h = rw (number_again n h) refl
 said_again (Groups n) h = rw (number_again n h) refl
 said_again (Seed n) h = rw (number_again n h) refl
-said_again (Router name k) h = rw (h.0, kind_again k h.1) refl
+said_again (Router name k) h = rw (h, kind_again k) refl
 said_again (Link a b delay cost) h = rw (h.0, h.1, number_again delay h.2, number_again cost h.3) refl
 said_again (Prefix name net cost) h = rw (h.0, net_again net h.1, number_again cost h.2) refl
 said_again Feed h = refl
@@ -117,7 +113,7 @@ split_again (Version n) h = parts_join 32 (codes "defined") (digits n ∷ []) re
 split_again (Period n) h = parts_join 32 (codes "period") (digits n ∷ []) refl (number_free 32 n (omega arith) h, tt)
 split_again (Groups n) h = parts_join 32 (codes "groups") (digits n ∷ []) refl (number_free 32 n (omega arith) h, tt)
 split_again (Seed n) h = parts_join 32 (codes "seed") (digits n ∷ []) refl (number_free 32 n (omega arith) h, tt)
-split_again (Router name kind) h = parts_join 32 (codes "router") (name ∷ kind_word kind ∷ []) refl (name_free 32 name (omega arith) h.0, (kind_free kind, tt))
+split_again (Router name kind) h = parts_join 32 (codes "router") (name ∷ kind_word kind ∷ []) refl (name_free 32 name (omega arith) h, (kind_free kind, tt))
 split_again (Link a b delay cost) h =
     parts_join 32 (codes "link") (a ∷ b ∷ digits delay ∷ digits cost ∷ []) refl
     (name_free 32 a (omega arith) h.0, (name_free 32 b (omega arith) h.1, (number_free 32 delay (omega arith) h.2, (number_free 32 cost (omega arith) h.3, tt))))

@@ -1,9 +1,7 @@
 -- What a line is that was read, and what it says where no cause holds for it.
 use Rattle.std.proofs.Common.{◌≡◌, ◌⊎◌, ℕ, ◌≤◌, ◌<◌, Bool, true, false, cond, not, ◌&&◌, ◌||◌, nat_le, nat_lt, List, [], ◌∷◌, Option, Some, None, is_some, unwrap_or, Ok, refl, subst, inl, inr, rules, tests, codes}
-use Rattle.std.specs.Option.{option_map, option_and_then}
-use Rattle.dn_model.specs.declared.router.Kind.{Kind}
+use Rattle.std.specs.Option.{option_map}
 use Rattle.dn_model.specs.Names.{is_name}
-use Rattle.dn_model.specs.Kinds.{is_built}
 use Rattle.dn_text.specs.declared.decimals.Number.{Number}
 use Rattle.dn_text.specs.declared.decimals.Number.TheVariants.{Is, Beyond}
 use Rattle.dn_text.specs.Decimals.{numeral_of}
@@ -11,7 +9,7 @@ use Rattle.dn_text.specs.Hexadecimals.{is_hex}
 use Rattle.dn_text.specs.Lines.{parts}
 use Rattle.dn_case.specs.declared.standing.Standing.{Standing}
 use Rattle.dn_case.specs.declared.cause.Cause.{Cause}
-use Rattle.dn_case.specs.Shapes.{Ask, Cmd, Down, Up, Line, Version, Period, Groups, Seed, Router, Link, Prefix, Feed, External, End, ◌>>=◌, is_word, name_of, kind_of_word, kind_of, net_of, one_field, two_fields, three_fields, four_fields, five_fields, group_of, ask_of, line_of_fields, before_newline, line_of}
+use Rattle.dn_case.specs.Shapes.{Ask, Cmd, Down, Up, Line, Version, Period, Groups, Seed, Router, Link, Prefix, Feed, External, End, ◌>>=◌, is_word, name_of, kind_of, net_of, one_field, two_fields, three_fields, four_fields, five_fields, group_of, ask_of, line_of_fields, before_newline, line_of}
 use Rattle.dn_case.specs.Standings.{place_of, may_follow, between, below, value, first_of, table, after, verdict, taken, judged, read_line}
 
 -- ---- what a line that is read is
@@ -23,7 +21,7 @@ pub record IsTaken (s : Standing) (text : List ℕ) (t : Standing) : Type 0 wher
   pub free : first_of (table s line) ≡ None
   pub is : t ≡ after s line
 
-free_of : (o : Option Cause) (s t : Standing) → verdict o s ≡ Ok t → (o ≡ None) × (t ≡ s)
+pub free_of : (o : Option Cause) (s t : Standing) → verdict o s ≡ Ok t → (o ≡ None) × (t ≡ s)
 free_of None s t e = (refl, cc)
 free_of (Some c) s t e = absurd cc
 
@@ -40,9 +38,9 @@ is_taken s text t e =
 
 -- ---- what its shape says
 
--- the name of a router's line is a name, its kind one that is built; a command is hexadecimal
+-- the name of a router's line is a name; a command is hexadecimal
 abbrev pub IsWell : Line → Type 0
-IsWell (Router name k) = (is_name name ≡ true) × (is_built k ≡ true)
+IsWell (Router name k) = is_name name ≡ true
 IsWell (External group name (Cmd hex)) = is_hex hex ≡ true
 IsWell _ = Unit {0}
 
@@ -96,21 +94,6 @@ named text name e =
       | false ↦ λ _ e. absurd cc
     ] refl e
 
-built_kind : (j k : Kind) → cond (is_built j) (Some j) None ≡ Some k → is_built k ≡ true
-built_kind j k e =
-    elim (is_built j) as (λ b. is_built j ≡ b → cond b (Some j) None ≡ Some k → is_built k ≡ true) [
-      | true ↦ λ is e. (let same : j ≡ k = cc in subst (λ (x : Kind). is_built x ≡ true) same is)
-      | false ↦ λ _ e. absurd cc
-    ] refl e
-
-built_word : (o : Option Kind) (k : Kind) → option_and_then (λ kind. cond (is_built kind) (Some kind) None) o ≡ Some k → is_built k ≡ true
-built_word None k e = absurd cc
-built_word (Some j) k e = built_kind j k e
-
-built : (text : List ℕ) (k : Kind) → kind_of text ≡ Some k → is_built k ≡ true
-unfolding kind_of
-built text k e = built_word (kind_of_word text) k e
-
 well_three : (word name kind : List ℕ) (l : Line) → three_fields word name kind ≡ Some l → IsWell l
 unfolding three_fields
 well_three word name kind l e =
@@ -118,7 +101,7 @@ well_three word name kind l e =
       | inl h ↦ (
           let n = bind (name_of name) _ l h.1 in
           let k = bind (kind_of kind) _ l n.2 in
-          well_as (Router n.0 k.0) l (named name n.0 n.1, built kind k.0 k.1) k.2)
+          well_as (Router n.0 k.0) l (named name n.0 n.1) k.2)
       | inr e ↦ no_line l e
     ]
 

@@ -4,3 +4,4 @@ pub mod Standings
 pub mod Takings
 pub mod Reading
 pub mod TraceSections
+pub mod Externals

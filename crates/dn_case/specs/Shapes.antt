@@ -5,7 +5,6 @@ use Rattle.std.specs.Cmp.Lexicographic.{pointwise}
 use Rattle.dn_model.specs.declared.router.Kind.{Kind}
 use Rattle.dn_model.specs.declared.router.Kind.TheVariants as kind
 use Rattle.dn_model.specs.Names.{is_name}
-use Rattle.dn_model.specs.Kinds.{is_built}
 use Rattle.dn_text.specs.declared.decimals.Number.{Number}
 use Rattle.dn_text.specs.Decimals.{numeral_of}
 use Rattle.dn_text.specs.Hexadecimals.{is_hex}
@@ -69,15 +68,11 @@ abbrev pub name_of : List ℕ → Option (List ℕ)
 name_of text = if is_name text then Some text else None
 
 -- the kind of a word
-abbrev pub kind_of_word : List ℕ → Option Kind
-kind_of_word text =
+unfoldable pub kind_of : List ℕ → Option Kind
+kind_of text =
     if is_word text (codes "flood") then Some kind.Flood else
     (if is_word text (codes "ospf") then Some kind.Ospf else
     (if is_word text (codes "rip") then Some kind.Rip else None))
-
--- the kind of a word, where it is built
-unfoldable pub kind_of : List ℕ → Option Kind
-kind_of text = kind_of_word text >>= λ kind. if is_built kind then Some kind else None
 
 -- A.B.C.D
 abbrev pub address_of : List (List ℕ) → Option (Number × Number × Number × Number)

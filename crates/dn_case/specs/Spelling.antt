@@ -14,7 +14,6 @@ use Rattle.std.specs.Fmt.{decimal}
 use Rattle.dn_model.specs.declared.router.Kind.{Kind}
 use Rattle.dn_model.specs.declared.router.Kind.TheVariants as kind
 use Rattle.dn_model.specs.Names.{is_name}
-use Rattle.dn_model.specs.Kinds.{is_built}
 use Rattle.dn_text.specs.declared.decimals.Number.{Number}
 use Rattle.dn_text.specs.declared.decimals.Number.TheVariants.{Is, Beyond}
 use Rattle.dn_text.specs.Hexadecimals.{is_hex}
@@ -67,7 +66,7 @@ IsSpellable (Version n) = IsSmall n
 IsSpellable (Period n) = IsSmall n
 IsSpellable (Groups n) = IsSmall n
 IsSpellable (Seed n) = IsSmall n
-IsSpellable (Router name k) = IsTrue (is_name name) × IsTrue (is_built k)
+IsSpellable (Router name k) = IsTrue (is_name name)
 IsSpellable (Link a b delay cost) = IsTrue (is_name a) × IsTrue (is_name b) × IsSmall delay × IsSmall cost
 IsSpellable (Prefix name net cost) = IsTrue (is_name name) × AreSmall net × IsSmall cost
 IsSpellable Feed = Unit {0}

@@ -1,6 +1,7 @@
 //! What is wrong with a text.
 
 ghost use Rattle.std.specs.Prelude.{◌≡◌};
+ghost use Rattle.dn_case.specs.declared.cause.CaseError.TheVariants.{NoMemory as Short};
 ghost use Rattle.dn_case.specs.declared.cause.LineError.TheVariants.{NoMemory as Memory};
 
 use std::alloc::AllocError;
@@ -48,6 +49,14 @@ pub struct CaseFault {
 pub enum CaseError {
     Fault(CaseFault),
     NoMemory,
+}
+
+impl From<AllocError> for CaseError {
+    ghost from_gives = { λ _ e. e ≡ Short };
+
+    fn from(_error: AllocError) -> CaseError {
+        CaseError::NoMemory
+    }
 }
 
 /// Why a line isn't taken.

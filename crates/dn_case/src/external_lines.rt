@@ -3,7 +3,7 @@
 ghost use Rattle.std.specs.Prelude.{◌≡◌, ◌<◌, IsTrue, IfOk, length};
 ghost use Rattle.dn_case.specs.Shapes.{ask, External as ExternalLine};
 ghost use Rattle.dn_case.specs.Standings.{last_group, ask_fits, lacks_port, input_of, taken};
-ghost use Rattle.dn_case.specs.Takings.{Reads, IsFew};
+ghost use Rattle.dn_case.specs.Takings.{Reads, FindsNext, IsFew};
 
 use crate::cause::{Cause, LineError};
 use crate::number::{below, between, narrow_u8, narrow_u32, value};
@@ -27,6 +27,23 @@ impl Standing {
         ensures read { Reads result self.new (taken self.old (ExternalLine group name.now (ask asked.entry))) }
         ensures few { IsFew self.new }
     {
+        let external = self.external(alloc, group, name, asked)?;
+        self.feed.push(external)?;
+        self.place = Place::External;
+        Ok(())
+    }
+
+    /// The external of a line, behind those that stand.
+    pub fn external(
+        &self,
+        alloc: Global,
+        group: Number,
+        name: &[u8],
+        asked: Asked<'_>,
+    ) -> Result<External, LineError>
+        requires { IsFew self.now }
+        ensures { FindsNext self.now result (taken self.now (ExternalLine group name.now (ask asked.entry))) }
+    {
         if !(below(u64::from(self.groups), group) && ask_fits(asked)) {
             return Err(LineError::Bad(Cause::Range));
         }
@@ -39,14 +56,11 @@ impl Standing {
         if lacks_port(self.links.ports_of(i), asked) {
             return Err(LineError::Bad(Cause::Port));
         }
-        let external = External {
+        Ok(External {
             group: narrow_u32(group),
             router: i as u16,
             input: input_of(alloc, asked)?,
-        };
-        self.feed.push(external)?;
-        self.place = Place::External;
-        Ok(())
+        })
     }
 }
 

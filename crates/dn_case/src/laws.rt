@@ -1,10 +1,12 @@
 //! Laws over all texts and cases.
 
 ghost use Rattle.std.specs.Prelude.{◌≡◌, ◌++◌, ℕ, List, Some, length, map, take};
-ghost use Rattle.dn_model.specs.Cases.{Recording, IsRecording};
+ghost use Rattle.dn_model.specs.declared.feed.External.{External};
+ghost use Rattle.dn_model.specs.Cases.{Heading, IsHeading, Recording, IsRecording};
 ghost use Rattle.dn_case.specs.declared.cause.Cause.{Cause};
 ghost use Rattle.dn_case.specs.Shapes.{Line, line_of};
 ghost use Rattle.dn_case.specs.Spelling.{IsSpellable, spelled, lines_of, case_text};
+ghost use Rattle.dn_case.specs.Externals.{IsExternalLine};
 ghost use Rattle.dn_case.specs.Reading.{IsCaseText, IsCaseFront, IsFirstBad};
 
 /// At most one front of a text is a case text, and it is the text of one case.
@@ -28,4 +30,9 @@ pub fn a_written_case_is_read()
     ensures lines { (c : Recording) → IsRecording c → IsCaseText (map spelled (lines_of c)) c }
     // Its text is a front of any text that begins with it.
     ensures front { (c : Recording) (rest : List ℕ) → IsRecording c → IsCaseFront (case_text c ++ rest) c (length (case_text c)) }
+{}
+
+/// A line is that of one external of a header at most.
+pub fn a_line_has_one_external()
+    ensures { (h : Heading) (x y : External) (line : List ℕ) → IsHeading h → IsExternalLine h x line → IsExternalLine h y line → x ≡ y }
 {}

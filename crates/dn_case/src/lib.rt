@@ -15,6 +15,7 @@
 //! | `standing.rt` | what the lines so far say; the numbers and the routers |
 //! | `link_lines.rt`, `prefix_lines.rt`, `external_lines.rt` | the further lines of the three sections behind the routers |
 //! | `read.rt` | `read_case` |
+//! | `known_header.rt` | a header whose routers are looked up by name, and lines that speak of them |
 //! | `write.rt` | `write_case` |
 //! | `trace_section.rt` | `split_trace` |
 //! | `laws.rt` | laws over all texts |
@@ -22,12 +23,14 @@
 //! The contracts upwards: `read_case` answers a case exactly where a front of the text is a case text of
 //! that case (`specs/Reading.antt`), and else the first bad line with its cause (`specs/Standings.antt`
 //! has a test for each cause, and the table of their order). `write_case` writes `case_text` of
-//! `specs/Spelling.antt`, and that text is read as the same case, whatever follows it.
+//! `specs/Spelling.antt`, and that text is read as the same case, whatever follows it. Other texts that
+//! have externals of a header read them by `KnownHeader::external` and write them by `push_external`.
 #![tactic(auto)]
 
 mod cause;
 mod counted_links;
 mod external_lines;
+mod known_header;
 mod known_routers;
 mod laws;
 mod link_lines;
@@ -41,13 +44,14 @@ mod trace_section;
 mod write;
 
 pub use cause::{CaseError, CaseFault, Cause};
+pub use known_header::KnownHeader;
 pub use laws::{
-    a_spelled_line_is_read, a_text_has_one_case, a_text_has_one_first_bad_line,
-    a_written_case_is_read,
+    a_line_has_one_external, a_spelled_line_is_read, a_text_has_one_case,
+    a_text_has_one_first_bad_line, a_written_case_is_read,
 };
 pub use read::read_case;
 pub use trace_section::split_trace;
-pub use write::write_case;
+pub use write::{push_external, write_case};
 
 #[cfg(test)]
 mod tests;

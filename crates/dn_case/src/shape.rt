@@ -4,7 +4,7 @@ ghost use Rattle.std.specs.Prelude.{◌≡◌, IfSome, IsTrue, nat_eq, codes};
 ghost use Rattle.std.specs.Option.{option_map, option_copied};
 ghost use Rattle.dn_model.specs.Names.{is_name};
 ghost use Rattle.dn_text.specs.Lines.{parts};
-ghost use Rattle.dn_case.specs.Shapes.{IsNamed, line, ask, is_word, name_of, kind_of_word, kind_of, address_of, net_of, one_field, two_fields, three_fields, group_of, ask_of, four_fields, five_fields, line_of_fields, before_newline, line_of};
+ghost use Rattle.dn_case.specs.Shapes.{IsNamed, line, ask, is_word, name_of, kind_of, address_of, net_of, one_field, two_fields, three_fields, group_of, ask_of, four_fields, five_fields, line_of_fields, before_newline, line_of};
 
 use dn_model::{Kind, is_name};
 use dn_text::{Number, first_part, is_hex, numeral};
@@ -54,8 +54,10 @@ fn name_of(text: &[u8]) -> Option<&[u8]>
     if is_name(text) { Some(text) } else { None }
 }
 
-fn kind_of_word(text: &[u8]) -> Option<Kind>
-    ensures { result ≡ kind_of_word text.now }
+/// The kind of a word.
+#[tactic(auto, unfolding(crate::specs::Shapes::kind_of))]
+fn kind_of(text: &[u8]) -> Option<Kind>
+    ensures { result ≡ kind_of text.now }
 {
     if is_word(text, b"flood") {
         Some(Kind::Flood)
@@ -66,15 +68,6 @@ fn kind_of_word(text: &[u8]) -> Option<Kind>
     } else {
         None
     }
-}
-
-/// The kind of a word, where its guest is built.
-#[tactic(auto, unfolding(crate::specs::Shapes::kind_of))]
-fn kind_of(text: &[u8]) -> Option<Kind>
-    ensures { result ≡ kind_of text.now }
-{
-    let kind = kind_of_word(text)?;
-    if kind.is_built() { Some(kind) } else { None }
 }
 
 fn address_of(text: &[u8]) -> Option<(Number, Number, Number, Number)>

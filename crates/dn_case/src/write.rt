@@ -165,9 +165,10 @@ fn push_all_prefixes(out: &mut Bytes, routers: &[RouterDef]) -> Result<(), NoMem
     Ok(())
 }
 
-/// An external has no other input than a command, a port that goes down or one that comes up.
+/// Appends the external's line. Its input is a command, a port that goes down or one that comes up. After
+/// `NoMemory` what stood in `out` before still stands at its front.
 #[tactic(auto, unfolding(crate::specs::Spelling::spelled))]
-fn push_external<'a>(
+pub fn push_external<'a>(
     out: &mut Bytes,
     routers: &'a [RouterDef],
     external: &'a External,

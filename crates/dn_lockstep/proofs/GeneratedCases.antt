@@ -65,7 +65,7 @@ pub one_router_more : (n : ℕ) → AreRouters [] (letters n) → IsTrue (is_nam
 unfolding number_of
 one_router_more n are name =
     routers_more [] (letters n) (named (97 + n)) are
-    (record { named = name; apart = no_position (λ r. pointwise nat_eq ((97 + n) ∷ []) r.name) (letters n) (other_names n n (omega arith)); kind = refl; few_prefixes = omega arith; prefixes = tt })
+    (record { named = name; apart = no_position (λ r. pointwise nat_eq ((97 + n) ∷ []) r.name) (letters n) (other_names n n (omega arith)); few_prefixes = omega arith; prefixes = tt })
 
 -- ---- externals
 

@@ -32,7 +32,7 @@ heading_is = record {
   seed = omega arith;
   some = omega arith;
   few = omega arith;
-  routers = (record { named = refl; apart = refl; kind = refl; few_prefixes = omega arith; prefixes = tt }, (record { named = refl; apart = refl; kind = refl; few_prefixes = omega arith; prefixes = tt }, tt));
+  routers = (record { named = refl; apart = refl; few_prefixes = omega arith; prefixes = tt }, (record { named = refl; apart = refl; few_prefixes = omega arith; prefixes = tt }, tt));
   few_links = omega arith;
   links = (record { inside = (omega arith, omega arith); differ = λ e. omega (arith, e); a_port = refl; b_port = refl; ports = (omega arith, omega arith); delay = (omega arith, omega arith); cost = (omega arith, omega arith) }, tt);
 }

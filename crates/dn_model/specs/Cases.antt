@@ -8,7 +8,7 @@ use Rattle.dn_model.specs.declared.link.Link.{Link}
 use Rattle.dn_model.specs.declared.feed.External.{External}
 use Rattle.dn_model.specs.declared.timing.Timing.{Timing}
 use Rattle.dn_model.specs.Names.{is_name}
-use Rattle.dn_model.specs.Kinds.{is_built, ArePrefixes}
+use Rattle.dn_model.specs.Kinds.{ArePrefixes}
 use Rattle.dn_model.specs.Routers.{number_of}
 use Rattle.dn_model.specs.Links.{ports_of}
 
@@ -36,7 +36,6 @@ pub record IsRouter (before : List RouterDef) (r : RouterDef) : Type 0 where
   pub named : IsTrue (is_name r.name)
   -- no router before it has its name
   pub apart : number_of before r.name ≡ None
-  pub kind : IsTrue (is_built r.kind)
   pub few_prefixes : length r.prefixes ≤ 32
   pub prefixes : ArePrefixes r.kind [] r.prefixes
 

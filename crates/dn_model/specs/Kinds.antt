@@ -1,15 +1,9 @@
 -- The kinds of routers, and the prefixes that a router of a kind may have.
-use Rattle.std.specs.Prelude.{◌≡◌, ℕ, ◌-◌, ◌<◌, ◌≤◌, ◌^◌, ◌%◌, List, [], ◌∷◌, ◌++◌, Bool, true, false, ◌&&◌, ◌==◌}
+use Rattle.std.specs.Prelude.{◌≡◌, ℕ, ◌-◌, ◌<◌, ◌≤◌, ◌^◌, ◌%◌, List, [], ◌∷◌, ◌++◌, Bool, false, ◌&&◌, ◌==◌}
 use Rattle.std.specs.List.{list_any}
 use Rattle.dn_model.specs.declared.router.Kind.{Kind}
 use Rattle.dn_model.specs.declared.router.Kind.TheVariants as kind
 use Rattle.dn_model.specs.declared.router.Prefix.{Prefix}
-
--- the guest of this kind is built: a case may have such routers
-abbrev pub is_built : Kind → Bool
-is_built kind.Flood = true
-is_built kind.Ospf = false
-is_built kind.Rip = true
 
 -- the costs of a prefix: none at a flooding router, which has no prefix
 abbrev pub IsCost : Kind → ℕ → Type 0

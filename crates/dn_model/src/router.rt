@@ -1,7 +1,6 @@
 //! Routers of a header, with their kinds and prefixes.
 
 ghost use Rattle.std.specs.Prelude.{◌≡◌, ◌++◌, ◌∷◌, [], IfOk, OnOk, OnErr};
-ghost use Rattle.dn_model.specs.Kinds.{is_built};
 
 use crate::Name;
 use dn_guest::NoMemory;
@@ -14,19 +13,6 @@ pub enum Kind {
     Flood,
     Ospf,
     Rip,
-}
-
-impl Kind {
-    /// Whether the guest of this kind is built, so that a case may have routers of it.
-    pub fn is_built(self) -> bool
-        ensures { result ≡ is_built self }
-    {
-        match self {
-            Kind::Flood => true,
-            Kind::Ospf => false,
-            Kind::Rip => true,
-        }
-    }
 }
 
 /// A prefix of a router: the first `len` bits of the address, and the cost at which it is told. A flooding

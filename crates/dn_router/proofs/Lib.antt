@@ -8,3 +8,4 @@ pub mod Answers
 pub mod Ordering
 pub mod Rolling
 pub mod Zero
+pub mod Fresh

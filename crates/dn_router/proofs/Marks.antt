@@ -1,18 +1,16 @@
 -- How many unsends of handled events wait, and whether a router is behind.
-use Rattle.std.proofs.Common.{◌≡◌, ℕ, suc, ◌+◌, ◌-◌, ◌<◌, ◌≤◌, ◌⊎◌, inl, inr, Bool, true, false, not, ◌&&◌, ◌||◌, cond, List, [], ◌∷◌, ◌++◌, length, take, drop, refl, sym, ap, ◌∙◌, subst, arith}
-use Rattle.std.specs.Prelude.{Option, Some, None, nat_lt, if◌then◌else◌, is_some, slice_get, option_copied}
+use Rattle.std.proofs.Common.{◌≡◌, ℕ, ◌+◌, ◌<◌, ◌≤◌, ◌⊎◌, inl, inr, Bool, true, false, not, ◌&&◌, ◌||◌, List, [], ◌∷◌, length, refl, sym, ap, ◌∙◌, subst, arith}
+use Rattle.std.specs.Prelude.{Option, Some, None, nat_lt, is_some, slice_get, option_copied}
 use Rattle.std.proofs.Common.{Bor}
-use Rattle.std.specs.List.{AllByRecursion, list_any, filter}
+use Rattle.std.specs.List.{list_any}
 use Rattle.std.specs.List.Sorted.{IsSorted}
-use Rattle.std.specs.Ordering.{is_lt, is_gt}
-use Rattle.std.proofs.lemmas.Bool.{both_ways, false≢true, ltb-true, ltb-false, lt-ltb, le-ltb}
+use Rattle.std.proofs.lemmas.Bool.{false≢true, lt-ltb, le-ltb}
 use Rattle.dn_lists.specs.InOrder.{put_in_order}
 use Rattle.dn_lists.proofs.Lists.{by_test}
 use Rattle.dn_lists.proofs.Sorting.{one_if, count, rises_from_sorted}
 use Rattle.dn_model.specs.declared.event.Event.{Event}
 use Rattle.dn_model.specs.Order.{event_cmp, event_total}
-use Rattle.dn_world.specs.declared.packet.Packet.{Packet}
-use Rattle.dn_world.specs.World.{Part, is_same, stands, without, with_todo, with_void, is_before_last, is_behind, is_ready, is_empty}
+use Rattle.dn_world.specs.World.{Part, stands, without, is_before_last, is_behind, is_ready, is_empty}
 use Rattle.dn_world.specs.Steps.{arrived}
 use Rattle.dn_world.specs.Runs.{IsTidy}
 use Rattle.dn_world.proofs.Parts.{count_without}

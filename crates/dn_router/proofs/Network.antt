@@ -1,5 +1,5 @@
 -- A router in a network.
-use Rattle.std.proofs.Common.{◌≡◌, ℕ, List, [], ◌∷◌, ◌++◌, refl, sym, ap, ◌∙◌}
+use Rattle.std.proofs.Common.{◌≡◌, ℕ, List, [], ◌∷◌, ◌++◌, refl, sym, ap}
 use Rattle.std.specs.List.{AllByRecursion}
 use Rattle.dn_guest.specs.declared.node.Node.{Node}
 use Rattle.dn_guest.specs.Node.{node_after, node_sent}

@@ -1,6 +1,6 @@
 -- The order that a router gives.
-use Rattle.std.proofs.Common.{◌≡◌, ℕ, ◌+◌, ◌<◌, List, [], ◌∷◌, ◌++◌, length, take, drop, refl, sym, ap, ◌∙◌, subst, arith}
-use Rattle.std.specs.Prelude.{Option, Some, None, slice_get}
+use Rattle.std.proofs.Common.{◌≡◌, ℕ, ◌<◌, List, [], ◌∷◌, ◌++◌, length, take, drop, refl, sym, ap, ◌∙◌, arith}
+use Rattle.std.specs.Prelude.{Some, slice_get}
 use Rattle.dn_guest.specs.declared.node.Node.{Node}
 use Rattle.dn_guest.specs.declared.node.Sent.{Sent}
 use Rattle.dn_guest.specs.Meaning.{Meaning}

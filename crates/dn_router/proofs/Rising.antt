@@ -1,6 +1,6 @@
 -- Lists of events that stay in order, and what of them is below a key.
-use Rattle.std.proofs.Common.{◌≡◌, ℕ, suc, ◌+◌, ◌<◌, ◌≤◌, Bool, true, false, List, [], ◌∷◌, ◌++◌, length, take, length-take, refl, sym, ap, ◌∙◌, subst, arith, append-nil}
-use Rattle.std.specs.List.{AllByRecursion, filter, list_any}
+use Rattle.std.proofs.Common.{◌≡◌, ℕ, ◌≤◌, Bool, true, false, List, [], ◌∷◌, ◌++◌, length, take, length-take, sym, ap, ◌∙◌, arith, append-nil}
+use Rattle.std.specs.List.{AllByRecursion}
 use Rattle.std.specs.List.Sorted.{IsSorted}
 use Rattle.std.specs.Ordering.{is_lt, is_gt}
 use Rattle.std.specs.Cmp.{upto}
@@ -16,7 +16,7 @@ use Rattle.dn_model.proofs.Waves.{IsRising}
 use Rattle.dn_world.specs.World.{Part, is_same, stands, is_before_last}
 use Rattle.dn_world.specs.Steps.{until, since, is_after_first, is_wrong}
 use Rattle.dn_world.specs.Runs.{IsPast}
-use Rattle.dn_world.proofs.Parts.{stands_all, same_is, same_itself}
+use Rattle.dn_world.proofs.Parts.{stands_all, same_itself}
 use Rattle.dn_world.proofs.Past.{past_on, past_trans}
 use Rattle.std.specs.declared.cmp.Ordering.{Ordering}
 use Rattle.std.specs.declared.cmp.Ordering.TheVariants.{Less, Equal, Greater}
@@ -100,7 +100,7 @@ pub below_past : (b : Key) (xs ys : List Event) → AllByRecursion (λ x. IsPast
 below_past b xs ys a = below_append b xs ys ∙ ap (λ l. below b xs ++ l) (none_below b ys a) ∙ append-nil (below b xs)
 
 -- a later key has no fewer below it
-below_grows : (a b : Key) (e : Event) → IsPast a b → is_below a e ≡ true → is_below b e ≡ true
+pub below_grows : (a b : Key) (e : Event) → IsPast a b → is_below a e ≡ true → is_below b e ≡ true
 unfolding is_below
 below_grows a b e p h =
     by_test (is_below b e) (λ g. g)

@@ -1,11 +1,9 @@
 -- What a rollback leaves.
-use Rattle.std.proofs.Common.{◌≡◌, ℕ, ◌+◌, ◌≤◌, List, ◌++◌, length, take, drop, refl, sym, ap, ◌∙◌, subst, arith}
+use Rattle.std.proofs.Common.{◌≡◌, ℕ, ◌≤◌, List, ◌++◌, length, take, drop, refl, sym, ap, ◌∙◌, subst, arith}
 use Rattle.dn_guest.specs.declared.node.Node.{Node}
 use Rattle.dn_guest.specs.Meaning.{Meaning}
 use Rattle.dn_model.specs.declared.event.Event.{Event}
 use Rattle.dn_model.specs.declared.key.Key.{Key}
-use Rattle.dn_model.specs.declared.link.End.{End}
-use Rattle.dn_model.specs.declared.timing.Timing.{Timing}
 use Rattle.dn_world.specs.World.{Part, with_todo}
 use Rattle.dn_world.specs.Steps.{until, since, is_wrong}
 use Rattle.dn_ckpt.specs.Shelves.{kept_up_to}

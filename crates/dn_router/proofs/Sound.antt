@@ -1,29 +1,27 @@
 -- What holds of a router's parts holds after each call.
-use Rattle.std.proofs.Common.{◌≡◌, ℕ, ◌<◌, Bool, true, false, List, [], ◌∷◌, ◌++◌, length, take, drop, refl, sym, ap, ◌∙◌, subst, arith}
+use Rattle.std.proofs.Common.{◌≡◌, ℕ, ◌<◌, Bool, true, false, List, [], ◌∷◌, ◌++◌, length, refl, sym, ap, ◌∙◌, subst, arith}
 use Rattle.std.specs.List.{AllByRecursion, list_any}
 use Rattle.std.specs.List.Sorted.{IsSorted}
-use Rattle.std.proofs.lemmas.Bool.{both_ways, false≢true}
+use Rattle.std.proofs.lemmas.Bool.{false≢true}
 use Rattle.dn_guest.specs.declared.node.Node.{Node}
 use Rattle.dn_guest.specs.Meaning.{Meaning}
 use Rattle.dn_lists.proofs.Lists.{by_test, all_weaker, all_both, all_append}
-use Rattle.dn_lists.proofs.Sorting.{count, count_none, rises_from_sorted, sorted_from_rises}
+use Rattle.dn_lists.proofs.Sorting.{count_none, rises_from_sorted, sorted_from_rises}
 use Rattle.dn_model.specs.declared.event.Event.{Event}
 use Rattle.dn_model.specs.declared.key.Key.{Key}
 use Rattle.dn_model.specs.Order.{event_cmp, event_total, sorted}
 use Rattle.dn_model.specs.Settled.{below}
-use Rattle.dn_world.specs.declared.packet.Packet.{Packet}
 use Rattle.dn_world.specs.World.{Part, no_part, is_same, stands, cancelled, with_todo, with_void, is_before_last, is_behind}
 use Rattle.dn_world.specs.Steps.{arrived, until, since, is_wrong}
 use Rattle.dn_world.specs.Runs.{IsPast, IsTidy}
-use Rattle.dn_world.proofs.Parts.{same_is, same_itself, all_unmatched, all_since, all_until, until_since, waits_todo, waits_void}
+use Rattle.dn_world.proofs.Parts.{all_unmatched, all_since, all_until, until_since, waits_todo, waits_void}
 use Rattle.dn_world.proofs.Tidy.{todo_tidy, void_tidy}
-use Rattle.dn_router.specs.Replays.{node_over, nodes_over}
+use Rattle.dn_router.specs.Replays.{nodes_over}
 use Rattle.dn_model.specs.declared.link.End.{End}
 use Rattle.dn_model.specs.declared.timing.Timing.{Timing}
 use Rattle.dn_router.specs.Routers.{Speculation}
 use Rattle.dn_router.specs.Sound.{IsSound, MayWait, marked_in}
 use Rattle.dn_router.proofs.Rising.{sorted_push, sorted_until, taken_past, below_past, none_handled}
-use Rattle.dn_router.proofs.Replays.{node_nothing}
 
 -- a part by its lists
 abbrev pub beside : List Event → Part → Part

@@ -39,3 +39,6 @@ mod router;
 
 pub use order::{Applied, Order, Outcome};
 pub use router::Router;
+
+#[cfg(test)]
+mod tests;

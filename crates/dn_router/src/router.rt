@@ -1,9 +1,9 @@
 //! The router.
 
-ghost use Rattle.std.specs.Prelude.{◌≡◌, ◌+◌, ◌<◌, ◌≤◌, [], ◌++◌, ◌↔◌, true, IsTrue, length, take, drop, map, slice_get, option_copied, IfOk, OnOk, OnErr};
-ghost use Rattle.std.specs.List.{AllByRecursion};
+ghost use Rattle.std.specs.Prelude.{◌≡◌, ◌+◌, ◌<◌, ◌≤◌, [], ◌++◌, ◌↔◌, true, not, IsTrue, length, take, drop, map, slice_get, option_copied, IfOk, OnOk, OnErr};
+ghost use Rattle.std.specs.List.{AllByRecursion, filter};
 ghost use Rattle.std.specs.List.Sorted.{IsSorted};
-ghost use Rattle.dn_model.specs.Order.{event_cmp};
+ghost use Rattle.dn_model.specs.Order.{event_cmp, is_below};
 ghost use Rattle.dn_model.specs.Settled.{below};
 ghost use Rattle.dn_world.specs.World.{no_part, key_of, is_behind, is_ready};
 ghost use Rattle.dn_world.specs.Steps.{arrived};
@@ -180,6 +180,7 @@ impl<G: Guest> Router<G> {
         ensures part { OnOk result (self.new ≡ record self.old { part = handled self.old.part }) }
         ensures events { IfOk result (λ events. events.items ≡ emits_next G.meaning self.old) }
         ensures err { OnErr result (self.new ≡ self.old) }
+        ensures own { AllByRecursion (λ e. e.router ≡ self.old.number) self.old.part.todo }
     {
         let least = match self.queue.least() {
             Some(least) => least,
@@ -200,6 +201,7 @@ impl<G: Guest> Router<G> {
         ensures part { OnOk result (self.new ≡ record self.old { part = rolled_back self.old.part }) }
         ensures unsent { IfOk result (λ events. events.items ≡ unsent G.meaning self.old) }
         ensures err { OnErr result (HasLost self.old self.new) }
+        ensures own { AllByRecursion (λ e. e.router ≡ self.old.number) self.old.part.done }
     {
         let place = first_wrong(self.done.as_slice(), &self.queue);
         let node = self.shelf.base_for(place as u64).1.fork(self.alloc)?;
@@ -224,6 +226,7 @@ impl<G: Guest> Router<G> {
         requires rising { IsPast self.old.bound key.now }
         ensures committed { OnOk result (self.new ≡ record self.old { committed = length (below key.now self.old.part.done); bound = key.now }) }
         ensures rows { IfOk result (λ rows. rows.items ≡ drop self.old.committed (below key.now self.old.part.done)) }
+        ensures fresh { IfOk result (λ rows. rows.items ≡ filter (λ e. not (is_below self.old.bound e)) (below key.now self.old.part.done)) }
         ensures err { OnErr result (self.new ≡ self.old) }
     {
         let count = count_below(self.done.as_slice(), key);
@@ -234,16 +237,19 @@ impl<G: Guest> Router<G> {
         Ok(rows)
     }
 
-    /// The least event to handle. None exactly where there is none.
+    /// The least event to handle. None exactly where there is none. Of every router it holds that what is to
+    /// be handled is in order.
     pub fn least(&self) -> Option<&Event>
-        ensures { option_copied result ≡ slice_get self.now.part.todo 0 }
+        ensures first { option_copied result ≡ slice_get self.now.part.todo 0 }
+        ensures sorted { IsSorted event_cmp self.now.part.todo }
     {
         self.queue.least()
     }
 
-    /// The unsends that wait, in the order of events.
+    /// The unsends that wait. Of every router it holds that they are in the order of events.
     pub fn voids(&self) -> &[Event]
-        ensures { result.now ≡ self.now.part.voids }
+        ensures voids { result.now ≡ self.now.part.voids }
+        ensures sorted { IsSorted event_cmp self.now.part.voids }
     {
         self.queue.voids()
     }

@@ -25,6 +25,8 @@ read_refused_run (Some l) status.NoMemory old now of_reading big same = inl same
 read_refused_run (Some l) status.Ok old now of_reading big same = cc
 read_refused_run (Some l) (status.Differs p) old now of_reading big same = cc
 read_refused_run (Some l) status.Usage old now of_reading big same = cc
+read_refused_run (Some l) (status.Illegal i) old now of_reading big same = cc
+read_refused_run (Some l) status.Open old now of_reading big same = cc
 read_refused_run (Some l) (status.BadCase f) old now of_reading big same = cc
 read_refused_run (Some l) status.Cut old now of_reading big same = cc
 read_refused_run (Some l) status.WriteFault old now of_reading big same = cc
@@ -37,6 +39,8 @@ read_refused_check (Some l) status.NoMemory of_reading big = tt
 read_refused_check (Some l) status.Ok of_reading big = cc
 read_refused_check (Some l) (status.Differs p) of_reading big = cc
 read_refused_check (Some l) status.Usage of_reading big = cc
+read_refused_check (Some l) (status.Illegal i) of_reading big = cc
+read_refused_check (Some l) status.Open of_reading big = cc
 read_refused_check (Some l) (status.BadCase f) of_reading big = cc
 read_refused_check (Some l) status.Cut of_reading big = cc
 read_refused_check (Some l) status.WriteFault of_reading big = cc
@@ -49,6 +53,8 @@ not_of_whole status.NoMemory of_reading whole = cc
 not_of_whole status.Ok of_reading whole = cc
 not_of_whole (status.Differs p) of_reading whole = cc
 not_of_whole status.Usage of_reading whole = cc
+not_of_whole (status.Illegal i) of_reading whole = cc
+not_of_whole status.Open of_reading whole = cc
 not_of_whole (status.BadCase f) of_reading whole = cc
 not_of_whole status.Cut of_reading whole = cc
 not_of_whole status.WriteFault of_reading whole = cc
@@ -63,6 +69,8 @@ case_refused_run input status.TooBig told refused = absurd refused
 case_refused_run input status.Ok told refused = absurd refused
 case_refused_run input (status.Differs p) told refused = absurd refused
 case_refused_run input status.Usage told refused = absurd refused
+case_refused_run input (status.Illegal i) told refused = absurd refused
+case_refused_run input status.Open told refused = absurd refused
 case_refused_run input status.Cut told refused = absurd refused
 case_refused_run input status.WriteFault told refused = absurd refused
 
@@ -74,6 +82,8 @@ case_refused_check input status.TooBig refused = absurd refused
 case_refused_check input status.Ok refused = absurd refused
 case_refused_check input (status.Differs p) refused = absurd refused
 case_refused_check input status.Usage refused = absurd refused
+case_refused_check input (status.Illegal i) refused = absurd refused
+case_refused_check input status.Open refused = absurd refused
 case_refused_check input status.Cut refused = absurd refused
 case_refused_check input status.WriteFault refused = absurd refused
 
@@ -85,6 +95,8 @@ refusal_of_case input status.TooBig refused = absurd refused
 refusal_of_case input status.Ok refused = refl
 refusal_of_case input (status.Differs p) refused = refl
 refusal_of_case input status.Usage refused = absurd refused
+refusal_of_case input (status.Illegal i) refused = absurd refused
+refusal_of_case input status.Open refused = absurd refused
 refusal_of_case input status.Cut refused = refl
 refusal_of_case input status.WriteFault refused = refl
 
@@ -99,6 +111,8 @@ case_run input c size status.ReadFault old now has ok cut whole whole_cut front 
 case_run input c size status.TooBig old now has ok cut whole whole_cut front only = cc
 case_run input c size (status.Differs p) old now has ok cut whole whole_cut front only = cc
 case_run input c size status.Usage old now has ok cut whole whole_cut front only = cc
+case_run input c size (status.Illegal i) old now has ok cut whole whole_cut front only = cc
+case_run input c size status.Open old now has ok cut whole whole_cut front only = cc
 case_run input c size (status.BadCase f) old now has ok cut whole whole_cut front only = cc
 
 pub writing_of_case : (s : Status) → is_of_writing s ≡ true → is_of_case s ≡ true
@@ -110,6 +124,8 @@ writing_of_case status.ReadFault only = only
 writing_of_case status.TooBig only = only
 writing_of_case (status.Differs p) only = refl
 writing_of_case status.Usage only = only
+writing_of_case (status.Illegal i) only = refl
+writing_of_case status.Open only = refl
 writing_of_case (status.BadCase f) only = refl
 
 pub case_check : (input : List ℕ) (c : Recording) (size : ℕ) (s : Status) → HasCase input c size → (s ≡ status.Ok → drop size input ≡ trace_of c) → (s ≡ status.Ok → is_cut_case c ≡ false) → (s ≡ status.Cut → drop size input ≡ trace_of c) → (s ≡ status.Cut → is_cut_case c ≡ true) → ((place : ℕ) → s ≡ status.Differs place → IsOtherTrace input c size place) → is_of_comparing s ≡ true → AnswersCheck s input
@@ -120,6 +136,8 @@ case_check input c size status.NoMemory has same ok same_cut cut differs only = 
 case_check input c size status.ReadFault has same ok same_cut cut differs only = cc
 case_check input c size status.TooBig has same ok same_cut cut differs only = cc
 case_check input c size status.Usage has same ok same_cut cut differs only = cc
+case_check input c size (status.Illegal i) has same ok same_cut cut differs only = cc
+case_check input c size status.Open has same ok same_cut cut differs only = cc
 case_check input c size (status.BadCase f) has same ok same_cut cut differs only = cc
 case_check input c size status.WriteFault has same ok same_cut cut differs only = cc
 
@@ -132,6 +150,8 @@ comparing_of_case status.ReadFault only = only
 comparing_of_case status.TooBig only = only
 comparing_of_case (status.Differs p) only = refl
 comparing_of_case status.Usage only = only
+comparing_of_case (status.Illegal i) only = refl
+comparing_of_case status.Open only = refl
 comparing_of_case (status.BadCase f) only = refl
 
 -- ---- answers that a command never gives
@@ -140,6 +160,8 @@ pub case_of_command : (s : Status) → is_of_case s ≡ true → is_of_command s
 case_of_command status.Ok only = refl
 case_of_command (status.Differs p) only = refl
 case_of_command status.Usage only = only
+case_of_command (status.Illegal i) only = refl
+case_of_command status.Open only = refl
 case_of_command (status.BadCase f) only = refl
 case_of_command status.Cut only = refl
 case_of_command status.ReadFault only = refl
@@ -151,6 +173,8 @@ pub reading_of_command : (s : Status) → is_of_reading s ≡ true → is_of_com
 reading_of_command status.Ok only = refl
 reading_of_command (status.Differs p) only = refl
 reading_of_command status.Usage only = only
+reading_of_command (status.Illegal i) only = refl
+reading_of_command status.Open only = refl
 reading_of_command (status.BadCase f) only = refl
 reading_of_command status.Cut only = refl
 reading_of_command status.ReadFault only = refl
@@ -162,6 +186,8 @@ pub check_of_command : (s : Status) → is_of_check s ≡ true → is_of_command
 check_of_command status.Ok only = refl
 check_of_command (status.Differs p) only = refl
 check_of_command status.Usage only = only
+check_of_command (status.Illegal i) only = refl
+check_of_command status.Open only = refl
 check_of_command (status.BadCase f) only = refl
 check_of_command status.Cut only = refl
 check_of_command status.ReadFault only = refl
@@ -173,6 +199,8 @@ pub reading_of_check : (s : Status) → is_of_reading s ≡ true → is_of_check
 reading_of_check status.Ok only = refl
 reading_of_check (status.Differs p) only = refl
 reading_of_check status.Usage only = only
+reading_of_check (status.Illegal i) only = refl
+reading_of_check status.Open only = refl
 reading_of_check (status.BadCase f) only = refl
 reading_of_check status.Cut only = refl
 reading_of_check status.ReadFault only = refl
@@ -184,6 +212,8 @@ pub comparing_of_check : (s : Status) → is_of_comparing s ≡ true → is_of_c
 comparing_of_check status.Ok only = refl
 comparing_of_check (status.Differs p) only = refl
 comparing_of_check status.Usage only = only
+comparing_of_check (status.Illegal i) only = refl
+comparing_of_check status.Open only = refl
 comparing_of_check (status.BadCase f) only = refl
 comparing_of_check status.Cut only = refl
 comparing_of_check status.ReadFault only = refl
@@ -195,6 +225,8 @@ pub refusal_of_check : (input : List ℕ) (s : Status) → IsCaseRefusal input s
 refusal_of_check input status.Ok refused = refl
 refusal_of_check input (status.Differs p) refused = refl
 refusal_of_check input status.Usage refused = absurd refused
+refusal_of_check input (status.Illegal i) refused = absurd refused
+refusal_of_check input status.Open refused = absurd refused
 refusal_of_check input (status.BadCase f) refused = refl
 refusal_of_check input status.Cut refused = refl
 refusal_of_check input status.ReadFault refused = refl

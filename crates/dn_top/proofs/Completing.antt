@@ -24,7 +24,7 @@ use Rattle.dn_top.specs.Completeness.{Owes, HasRun, RunOwes, whole_run, cut_run,
 absurd_bool : {A : Type 0} → false ≡ true → A
 absurd_bool is = cc
 
-too_long : {A : Type 0} {n : ℕ} → n ≤ input_limit → input_limit < n → A
+pub too_long : {A : Type 0} {n : ℕ} → n ≤ input_limit → input_limit < n → A
 too_long small big = absurd (omega (arith, small, big))
 
 -- ---- one case, one first bad line
@@ -35,13 +35,13 @@ same_case input c d m n p q =
     let sizes = p.front.long ∙ ap (λ (l : List (List ℕ)). length (concat l)) one.0 ∙ sym q.front.long in
     (one.1, sizes)
 
-no_bad_line : {A : Type 0} (input : List ℕ) (c : Recording) (n : ℕ) (f : CaseFault) → HasCase input c n → IsBadCase input f → A
+pub no_bad_line : {A : Type 0} (input : List ℕ) (c : Recording) (n : ℕ) (f : CaseFault) → HasCase input c n → IsBadCase input f → A
 no_bad_line input c n f has bad = absurd (bad.none has.front.count c has.front.whole)
 
-fault_at : ℕ → Cause → CaseFault
+unfoldable pub fault_at : ℕ → Cause → CaseFault
 fault_at l c = record { line = l; cause = c }
 
-same_fault : (input : List ℕ) (f g : CaseFault) → IsBadCase input f → IsBadCase input g → f ≡ g
+pub same_fault : (input : List ℕ) (f g : CaseFault) → IsBadCase input f → IsBadCase input g → f ≡ g
 unfolding fault_at
 same_fault input f g p q =
     let one = one_first_bad (lines input) f.line g.line f.cause g.cause p.first q.first in
@@ -82,6 +82,8 @@ run_gives input status.ReadFault old now a read write = absurd (read refl)
 run_gives input status.WriteFault old now a read write = absurd (write refl)
 run_gives input (status.Differs p) old now a read write = absurd a
 run_gives input status.Usage old now a read write = absurd a
+run_gives input (status.Illegal i) old now a read write = absurd a
+run_gives input status.Open old now a read write = absurd a
 
 -- ---- one first difference
 
@@ -166,10 +168,12 @@ check_gives input status.NoMemory a read = inr refl
 check_gives input status.ReadFault a read = absurd (read refl)
 check_gives input status.WriteFault a read = absurd a
 check_gives input status.Usage a read = absurd a
+check_gives input (status.Illegal i) a read = absurd a
+check_gives input status.Open a read = absurd a
 
 -- ---- where no fault came
 
-calm : (old now : ℕ) → IsCalm old now → Rose old now → ⊥
+pub calm : (old now : ℕ) → IsCalm old now → Rose old now → ⊥
 calm old now below rose = omega (arith, below, rose)
 
 answered : {Owed : Status → Type 0} (one : (s t : Status) → Owed s → Owed t → s ≡ t) (owed s : Status) → Owed owed → Owed s ⊎ (s ≡ status.NoMemory) → IsAnswered owed s

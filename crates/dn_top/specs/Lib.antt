@@ -2,3 +2,4 @@ pub mod Words
 pub mod Lines
 pub mod Promises
 pub mod Completeness
+pub mod Drives

@@ -38,6 +38,8 @@ status_words status.ReadFault = codes "read fault"
 status_words status.WriteFault = codes "write fault"
 status_words status.NoMemory = codes "no memory"
 status_words status.TooBig = codes "too big"
+status_words (status.Illegal number) = codes "illegal step " ++ decimal number
+status_words status.Open = codes "open"
 
 -- the line, with its newline; none for Ok
 unfoldable pub status_line : Status → List ℕ
@@ -55,3 +57,5 @@ status_number status.ReadFault = 5
 status_number status.WriteFault = 6
 status_number status.NoMemory = 7
 status_number status.TooBig = 8
+status_number (status.Illegal number) = 9
+status_number status.Open = 10

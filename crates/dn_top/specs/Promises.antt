@@ -1,13 +1,23 @@
 -- What the commands write of an input, and which statuses they answer.
-use Rattle.std.specs.Prelude.{◌≡◌, ◌⊎◌, ℕ, ◌+◌, ◌≤◌, ◌<◌, Bool, true, false, List, ◌++◌, length, drop, Option}
+use Rattle.std.specs.Prelude.{◌≡◌, ◌⊎◌, ℕ, ◌+◌, ◌≤◌, ◌<◌, Bool, true, false, List, ◌++◌, length, take, drop, Option}
 use Rattle.dn_io.specs.Streams.{behind, PutsFront}
 use Rattle.dn_model.specs.Cases.{Heading, Recording}
-use Rattle.dn_model.specs.Network.{Network}
+use Rattle.dn_model.specs.Network.{Network, routers}
 use Rattle.dn_model.specs.Settled.{is_cut}
+use Rattle.dn_world.specs.declared.step.Step.{Step}
+use Rattle.dn_world.specs.World.{opening}
 use Rattle.dn_text.specs.Lines.{lines}
+use Rattle.dn_case.specs.declared.cause.Cause.TheVariants as cause
 use Rattle.dn_case.specs.declared.cause.CaseFault.{CaseFault}
 use Rattle.dn_case.specs.Spelling.{case_text}
 use Rattle.dn_case.specs.Reading.{IsCaseFront, IsFirstBad, HasNoCase}
+use Rattle.dn_case.specs.TraceSections.{section_len}
+use Rattle.dn_journal.specs.Spelling.{journal_text}
+use Rattle.dn_journal.specs.Reading.{IsJournal, IsNoJournal, IsFirstBad as IsFirstBadStep}
+use Rattle.dn_drive.specs.declared.ended.Ended.{Ended}
+use Rattle.dn_drive.specs.declared.ended.Ended.TheVariants as ended
+use Rattle.dn_drive.specs.Allowed.{rerun}
+use Rattle.dn_drive.specs.Choices.{schedule}
 use Rattle.guest_any.specs.declared.any.AnyGuest.{AnyGuest}
 use Rattle.guest_any.specs.Any.{any}
 use Rattle.guest_any.specs.Openings.{opening_guest}
@@ -17,6 +27,7 @@ use Rattle.dn_trace.specs.declared.stream.Ending.{Ending}
 use Rattle.dn_trace.specs.declared.stream.Ending.TheVariants as ending
 use Rattle.dn_top.specs.declared.status.Status.{Status}
 use Rattle.dn_top.specs.declared.status.Status.TheVariants as status
+use Rattle.dn_top.specs.declared.words.Schedule.{Schedule}
 use Rattle.dn_top.specs.declared.words.Command.{Command}
 use Rattle.dn_top.specs.declared.words.Command.TheVariants as command
 
@@ -98,6 +109,106 @@ pub record HasOtherTrace (input : List ℕ) (place : ℕ) : Type 0 where
   pub has : HasCase input case size
   pub other : IsOtherTrace input case size place
 
+-- ---- what is taken step by step
+
+-- what the steps come to in the case, from the opening world of its network
+abbrev pub outcome_of : Recording → List Step → Ended
+outcome_of c steps = rerun (network_of c.header) (opening (routers (network_of c.header))) c.feed 0 steps
+
+-- the steps of the schedule in the case
+abbrev pub steps_of : Recording → Schedule → List Step
+steps_of c s = schedule (network_of c.header) (opening (routers (network_of c.header))) c.feed s.number s.steps
+
+-- steps that come to this have a trace
+abbrev pub has_trace : Ended → Bool
+has_trace ended.Whole = true
+has_trace ended.Cut = true
+has_trace (ended.Illegal n) = false
+has_trace ended.Open = false
+
+-- ---- journals
+
+-- where a journal begins behind a case of so many bytes: behind the trace section there, if there is one
+abbrev pub journal_place : List ℕ → ℕ → ℕ
+journal_place input size = size + section_len (drop size input)
+
+-- the lines of the input from there on, and how many there are before
+abbrev pub journal_lines : List ℕ → ℕ → List (List ℕ)
+journal_lines input size = lines (drop (journal_place input size) input)
+
+abbrev pub lines_before : List ℕ → ℕ → ℕ
+lines_before input size = length (lines (take (journal_place input size) input))
+
+-- behind the case at the front of the input, and perhaps a trace section, stands the journal of these steps
+pub record HasJournal (input : List ℕ) (c : Recording) (size : ℕ) (steps : List Step) : Type 0 where
+  pub has : HasCase input c size
+  pub journal : IsJournal c.header (journal_lines input size) steps
+
+-- no journal of this header stands behind the first bytes: the first bad line, counted in the whole input
+pub record IsBehindBad (h : Heading) (input : List ℕ) (size : ℕ) (fault : CaseFault) : Type 0 where
+  pub line : ℕ
+  pub first : IsFirstBadStep h (journal_lines input size) line
+  pub none : IsNoJournal h (journal_lines input size)
+  pub at : fault.line ≡ lines_before input size + line
+  pub cause : fault.cause ≡ cause.Journal
+
+-- no journal stands behind the case at the front of the input, and this is the first bad line
+pub record IsBadJournal (input : List ℕ) (fault : CaseFault) : Type 0 where
+  pub case : Recording
+  pub size : ℕ
+  pub has : HasCase input case size
+  pub bad : IsBehindBad case.header input size fault
+
+-- the steps of the journal come to this
+pub record HasRerun (input : List ℕ) (e : Ended) : Type 0 where
+  pub case : Recording
+  pub size : ℕ
+  pub steps : List Step
+  pub has : HasJournal input case size steps
+  pub is : outcome_of case steps ≡ e
+
+-- and the case was written with its trace, which is cut or whole
+pub record HasRewritten (input : List ℕ) (e : Ended) (cut : Bool) (old now : Option (List ℕ)) : Type 0 where
+  pub comes : HasRerun input e
+  pub is : is_cut_case comes.case ≡ cut
+  pub text : now ≡ behind old (written comes.case)
+
+-- the steps of the journal come to a trace, and a front of the case and its trace was written
+pub record HasBegunAgain (input : List ℕ) (old now : Option (List ℕ)) : Type 0 where
+  pub case : Recording
+  pub size : ℕ
+  pub steps : List Step
+  pub has : HasJournal input case size steps
+  pub is : has_trace (outcome_of case steps) ≡ true
+  pub front : PutsFront old now (written case)
+
+-- ---- schedules
+
+-- what `shake` writes: the recording, the trace, and then the journal
+unfoldable pub shaken : Recording → List Step → List ℕ
+shaken c steps = written c ++ journal_text c.header steps
+
+-- the steps of the schedule come to this, in the case at the front of the input
+pub record HasShaken (s : Schedule) (input : List ℕ) (e : Ended) : Type 0 where
+  pub case : Recording
+  pub size : ℕ
+  pub has : HasCase input case size
+  pub is : outcome_of case (steps_of case s) ≡ e
+
+-- and the case was written with its trace, which is cut or whole, and the journal of those steps
+pub record HasShakenOut (s : Schedule) (input : List ℕ) (e : Ended) (cut : Bool) (old now : Option (List ℕ)) : Type 0 where
+  pub shaking : HasShaken s input e
+  pub is : is_cut_case shaking.case ≡ cut
+  pub text : now ≡ behind old (shaken shaking.case (steps_of shaking.case s))
+
+-- the steps of the schedule come to a trace, and a front of the case, its trace and the journal was written
+pub record HasBegunShaken (s : Schedule) (input : List ℕ) (old now : Option (List ℕ)) : Type 0 where
+  pub case : Recording
+  pub size : ℕ
+  pub has : HasCase input case size
+  pub is : has_trace (outcome_of case (steps_of case s)) ≡ true
+  pub front : PutsFront old now (shaken case (steps_of case s))
+
 -- ---- statuses
 
 -- a refusal of reading
@@ -147,6 +258,8 @@ is_of_whole_input status.Ok = true
 is_of_whole_input status.Cut = true
 is_of_whole_input (status.Differs place) = true
 is_of_whole_input (status.BadCase fault) = true
+is_of_whole_input (status.Illegal number) = true
+is_of_whole_input status.Open = true
 is_of_whole_input _ = false
 
 -- a refusal of the case: the first bad line, or want of memory
@@ -168,6 +281,8 @@ AnswersRun status.WriteFault input old now = HasBegun input old now
 AnswersRun status.NoMemory input old now = (now ≡ old) ⊎ HasBegun input old now
 AnswersRun (status.Differs place) input old now = ⊥
 AnswersRun status.Usage input old now = ⊥
+AnswersRun (status.Illegal number) input old now = ⊥
+AnswersRun status.Open input old now = ⊥
 
 -- of `check`, which writes nothing
 abbrev pub AnswersCheck : Status → List ℕ → Type 0
@@ -180,9 +295,41 @@ AnswersCheck status.ReadFault input = Unit {0}
 AnswersCheck status.NoMemory input = Unit {0}
 AnswersCheck status.WriteFault input = ⊥
 AnswersCheck status.Usage input = ⊥
+AnswersCheck (status.Illegal number) input = ⊥
+AnswersCheck status.Open input = ⊥
+
+-- of `rerun`
+abbrev pub AnswersRerun : Status → List ℕ → Option (List ℕ) → Option (List ℕ) → Type 0
+AnswersRerun status.Ok input old now = HasRewritten input ended.Whole false old now
+AnswersRerun status.Cut input old now = HasRewritten input ended.Cut true old now
+AnswersRerun (status.Illegal number) input old now = HasRerun input (ended.Illegal number) × (now ≡ old)
+AnswersRerun status.Open input old now = HasRerun input ended.Open × (now ≡ old)
+AnswersRerun (status.BadCase fault) input old now = (IsBadCase input fault ⊎ IsBadJournal input fault) × (now ≡ old)
+AnswersRerun status.TooBig input old now = (input_limit < length input) × (now ≡ old)
+AnswersRerun status.ReadFault input old now = now ≡ old
+AnswersRerun status.WriteFault input old now = HasBegunAgain input old now
+AnswersRerun status.NoMemory input old now = (now ≡ old) ⊎ HasBegunAgain input old now
+AnswersRerun (status.Differs place) input old now = ⊥
+AnswersRerun status.Usage input old now = ⊥
+
+-- of `shake`
+abbrev pub AnswersShake : Schedule → Status → List ℕ → Option (List ℕ) → Option (List ℕ) → Type 0
+AnswersShake s status.Ok input old now = HasShakenOut s input ended.Whole false old now
+AnswersShake s status.Cut input old now = HasShakenOut s input ended.Cut true old now
+AnswersShake s status.Open input old now = HasShaken s input ended.Open × (now ≡ old)
+AnswersShake s (status.BadCase fault) input old now = IsBadCase input fault × (now ≡ old)
+AnswersShake s status.TooBig input old now = (input_limit < length input) × (now ≡ old)
+AnswersShake s status.ReadFault input old now = now ≡ old
+AnswersShake s status.WriteFault input old now = HasBegunShaken s input old now
+AnswersShake s status.NoMemory input old now = (now ≡ old) ⊎ HasBegunShaken s input old now
+AnswersShake s (status.Illegal number) input old now = ⊥
+AnswersShake s (status.Differs place) input old now = ⊥
+AnswersShake s status.Usage input old now = ⊥
 
 -- of each command
 abbrev pub Answers : Command → Status → List ℕ → Option (List ℕ) → Option (List ℕ) → Type 0
 Answers command.Run status input old now = AnswersRun status input old now
 Answers command.Lockstep status input old now = AnswersRun status input old now
 Answers command.Check status input old now = AnswersCheck status input × (now ≡ old)
+Answers command.Rerun status input old now = AnswersRerun status input old now
+Answers (command.Shake schedule) status input old now = AnswersShake schedule status input old now

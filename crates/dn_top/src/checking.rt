@@ -42,7 +42,7 @@ fn check_input(alloc: Global, input: &[u8]) -> Status
 }
 
 /// What stands behind the first `size` bytes.
-fn behind(input: &[u8], size: u64) -> &[u8]
+pub(crate) fn behind(input: &[u8], size: u64) -> &[u8]
     requires { size ≤ length input.now }
     ensures { result.now ≡ drop size input.now }
 {

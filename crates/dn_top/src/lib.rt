@@ -12,6 +12,9 @@
 //! | `written.rt` | writing a case and the trace of its lockstep run |
 //! | `run.rt` | `run` and `lockstep` |
 //! | `checking.rt` | `check` |
+//! | `driven.rt` | the fabric of a case, and writing what it shows |
+//! | `rerun.rt` | `rerun` |
+//! | `shake.rt` | `shake` |
 //! | `top.rt` | the top calls |
 //!
 //! The one contract upwards: the table `Answers` of `specs/Promises.antt`. For each command and each
@@ -20,8 +23,11 @@
 #![tactic(auto)]
 
 mod checking;
+mod driven;
 mod input;
+mod rerun;
 mod run;
+mod shake;
 mod status;
 mod top;
 mod words;
@@ -29,7 +35,7 @@ mod written;
 
 pub use status::{Status, status_line, status_number};
 pub use top::{defined_plain, defined_top};
-pub use words::{Command, command_of};
+pub use words::{Command, Schedule, command_of};
 
 #[cfg(test)]
 mod tests;

@@ -30,6 +30,10 @@ pub enum Status {
     NoMemory,
     /// The source gave more than 16,777,216 bytes.
     TooBig,
+    /// `rerun`: the number, from 1, of the first step that isn't allowed where it comes.
+    Illegal(u64),
+    /// `rerun`, `shake`: all steps were taken, and something is left to do.
+    Open,
 }
 
 /// The exit status of the program.
@@ -46,6 +50,8 @@ pub fn status_number(status: &Status) -> u8
         Status::WriteFault => 6,
         Status::NoMemory => 7,
         Status::TooBig => 8,
+        Status::Illegal(_) => 9,
+        Status::Open => 10,
     }
 }
 
@@ -82,6 +88,11 @@ fn push_words(out: &mut Bytes, status: &Status) -> Result<(), NoMemory>
         Status::WriteFault => out.append(b"write fault"),
         Status::NoMemory => out.append(b"no memory"),
         Status::TooBig => out.append(b"too big"),
+        Status::Illegal(number) => {
+            out.append(b"illegal step ")?;
+            push_decimal(out, *number)
+        }
+        Status::Open => out.append(b"open"),
     }
 }
 

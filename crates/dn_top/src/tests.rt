@@ -2,7 +2,10 @@
 
 ghost use Rattle.std.specs.Prelude.{◌≤◌};
 
+mod driving;
+mod ospf;
 mod rip;
+mod shown;
 
 use crate::written::guests_of;
 use crate::{Status, defined_plain, defined_top, status_line, status_number};

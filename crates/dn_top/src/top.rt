@@ -9,7 +9,9 @@ ghost use Rattle.dn_top.specs.Promises.{Answers, input_limit, is_of_whole_input}
 ghost use Rattle.dn_top.specs.Completeness.{Owes, IsCalm, IsAnswered};
 
 use crate::checking::check_trace;
+use crate::rerun::rerun_journal;
 use crate::run::run_lockstep;
+use crate::shake::shake_case;
 use crate::status::Status;
 use crate::words::{Command, command_of};
 use dn_io::{Sink, Source};
@@ -54,6 +56,8 @@ pub fn defined_top<S: Source, K: Sink>(
         Some(Command::Run) => run_lockstep(alloc, source, sink),
         Some(Command::Lockstep) => run_lockstep(alloc, source, sink),
         Some(Command::Check) => check_trace(alloc, source),
+        Some(Command::Rerun) => rerun_journal(alloc, source, sink),
+        Some(Command::Shake(schedule)) => shake_case(alloc, schedule, source, sink),
     }
 }
 
@@ -92,5 +96,7 @@ pub fn defined_plain<S: Source, K: Sink>(
         Some(Command::Run) => Status::Usage,
         Some(Command::Lockstep) => run_lockstep(alloc, source, sink),
         Some(Command::Check) => check_trace(alloc, source),
+        Some(Command::Rerun) => rerun_journal(alloc, source, sink),
+        Some(Command::Shake(schedule)) => shake_case(alloc, schedule, source, sink),
     }
 }

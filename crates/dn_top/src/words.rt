@@ -2,7 +2,12 @@
 
 ghost use Rattle.std.specs.Prelude.{◌≡◌, map};
 ghost use Rattle.std.specs.String.{string_bytes};
-ghost use Rattle.dn_top.specs.Words.{command_of_word, command_of};
+ghost use Rattle.dn_top.specs.Words.{command_of_word, command_of, shake_of, scheduled};
+
+use dn_text::decimal;
+
+/// The most steps of a schedule.
+const MOST_STEPS: u64 = 1_000_000;
 
 /// A command of the program.
 #[derive(Clone, Copy, Debug, PartialEq, Eq)]
@@ -13,6 +18,17 @@ pub enum Command {
     Lockstep,
     /// Says whether the trace behind a case is the case's.
     Check,
+    /// Takes the steps of the journal behind a case, and writes the recording and the trace.
+    Rerun,
+    /// Takes the steps of a schedule, and writes the recording, the trace and the journal.
+    Shake(Schedule),
+}
+
+/// A schedule: the number from which each step is drawn, and how many steps it has at most.
+#[derive(Clone, Copy, Debug, PartialEq, Eq)]
+pub struct Schedule {
+    pub number: u64,
+    pub steps: u64,
 }
 
 /// The command that the words name; None where they name none.
@@ -22,6 +38,12 @@ pub fn command_of(words: &[String]) -> Option<Command>
 {
     match words {
         [word] => command_of_word(word.as_str()),
+        [word, number, option, steps] => shake_of(
+            word.as_str(),
+            number.as_str(),
+            option.as_str(),
+            steps.as_str(),
+        ),
         _ => None,
     }
 }
@@ -35,7 +57,36 @@ fn command_of_word(word: &str) -> Option<Command>
         Some(Command::Lockstep)
     } else if word == "check" {
         Some(Command::Check)
+    } else if word == "rerun" {
+        Some(Command::Rerun)
     } else {
         None
+    }
+}
+
+/// The command of the words `shake NUMBER --steps M`.
+fn shake_of(word: &str, number: &str, option: &str, steps: &str) -> Option<Command>
+    ensures { result ≡ shake_of word.now number.now option.now steps.now }
+{
+    if word == "shake" && option == "--steps" {
+        scheduled(decimal(number.as_bytes()), decimal(steps.as_bytes()))
+    } else {
+        None
+    }
+}
+
+/// `shake` by this number, of 1 to 1,000,000 steps.
+fn scheduled(number: Option<u64>, steps: Option<u64>) -> Option<Command>
+    ensures { result ≡ scheduled number steps }
+{
+    match (number, steps) {
+        (Some(number), Some(steps)) => {
+            if 1 <= steps && steps <= MOST_STEPS {
+                Some(Command::Shake(Schedule { number, steps }))
+            } else {
+                None
+            }
+        }
+        _ => None,
     }
 }

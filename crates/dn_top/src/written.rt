@@ -50,7 +50,11 @@ fn write_both<K: Sink>(alloc: Global, case: &Case, sink: &mut K) -> Result<Endin
 }
 
 /// The recording: the one spelling of the case.
-fn write_recording<K: Sink>(alloc: Global, case: &Case, sink: &mut K) -> Result<(), WriteError>
+pub(crate) fn write_recording<K: Sink>(
+    alloc: Global,
+    case: &Case,
+    sink: &mut K,
+) -> Result<(), WriteError>
     ensures all { OnOk result (K.holds sink.new ≡ behind (K.holds sink.old) (case_text case.now)) }
     ensures front { PutsFront (K.holds sink.old) (K.holds sink.new) (case_text case.now) }
     ensures fault { IsErrOf result WriteError.Fault → Rose (K.faults sink.old) (K.faults sink.new) }

@@ -47,9 +47,9 @@ fn push_states<G: Guest>(
     Ok(())
 }
 
-/// Appends the line `end trace N`.
+/// Appends the line `end trace N`, which ends the trace of a run of so many rows behind the states.
 #[tactic(auto, unfolding(crate::specs::Trace::end_line, crate::specs::Rows::last_field))]
-fn push_end_line(rows: u64, out: &mut Bytes) -> Result<(), NoMemory>
+pub fn push_end_line(rows: u64, out: &mut Bytes) -> Result<(), NoMemory>
     ensures { OnOk result (out.new ≡ out.old ++ end_line rows) }
 {
     out.append(b"end trace ")?;
@@ -58,9 +58,9 @@ fn push_end_line(rows: u64, out: &mut Bytes) -> Result<(), NoMemory>
     Ok(())
 }
 
-/// Appends the line `cut N`, with the row limit.
+/// Appends the line `cut 200000`, which ends the trace of a run of more rows.
 #[tactic(auto, unfolding(crate::specs::Trace::cut_line, crate::specs::Rows::last_field, dn_model::specs::Settled::row_limit))]
-pub(crate) fn push_cut_line(out: &mut Bytes) -> Result<(), NoMemory>
+pub fn push_cut_line(out: &mut Bytes) -> Result<(), NoMemory>
     ensures { OnOk result (out.new ≡ out.old ++ cut_line) }
 {
     out.append(b"cut ")?;

@@ -11,7 +11,7 @@
 //! | `stream.rt` | the text of a trace, piece by piece |
 //! | `lockstep.rt` | `write_trace`: writing the trace of a lockstep run |
 //! | `compare.rt` | `check`: comparing a text with that trace |
-//! | `write.rt`, `writer.rt` | writing single rows and states, and rows that come in pieces |
+//! | `write.rt`, `writer.rt` | writing single rows and states, rows that are there, and rows that come in pieces |
 //!
 //! The one contract upwards: `write_trace` at Ok has written `trace_text` of `specs/Trace.antt`, which is
 //! made of the model's lockstep rows and states and knows no engine; at an error it has written a front
@@ -27,8 +27,9 @@ mod write;
 mod writer;
 
 pub use compare::{Checked, check};
+pub use ends::{push_cut_line, push_end_line};
 pub use lockstep::write_trace;
 pub use rows::{push_row, push_state};
 pub use stream::Ending;
-pub use write::{WriteError, write_row, write_state};
+pub use write::{WriteError, write_row, write_rows, write_state};
 pub use writer::TraceWriter;

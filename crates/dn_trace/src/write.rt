@@ -1,10 +1,11 @@
 //! Writing rows and states to a sink.
 
-ghost use Rattle.std.specs.Prelude.{◌≡◌, ◌≤◌, OnOk, IsErrOf};
+ghost use Rattle.std.specs.Prelude.{◌≡◌, ◌≤◌, ◌++◌, codes, OnOk, IsErrOf};
 ghost use Rattle.dn_io.specs.Streams.{Rose, behind, PutsFront};
-ghost use Rattle.dn_trace.specs.Rows.{row_line, state_line};
+ghost use Rattle.dn_trace.specs.Rows.{row_line, row_lines, state_line};
 
 use crate::rows::{push_row, push_state};
+use crate::writer::put_rows;
 use dn_guest::{Bytes, Guest, Node};
 use dn_io::{Sink, WriteFault, put_all};
 use dn_model::{Header, Row};
@@ -52,6 +53,25 @@ pub fn write_row<K: Sink>(
         return Err(WriteError::NoMemory);
     }
     put_text(sink, &text)
+}
+
+/// Writes the line `trace` and the lines of the rows. At an error a front of that was written.
+pub fn write_rows<K: Sink>(
+    alloc: Global,
+    header: &Header,
+    rows: &[Row],
+    sink: &mut K,
+) -> Result<(), WriteError>
+    ensures all { OnOk result (K.holds sink.new ≡ behind (K.holds sink.old) (codes "trace\n" ++ row_lines header.now.routers rows.now)) }
+    ensures front { PutsFront (K.holds sink.old) (K.holds sink.new) (codes "trace\n" ++ row_lines header.now.routers rows.now) }
+    ensures fault { IsErrOf result WriteError.Fault → Rose (K.faults sink.old) (K.faults sink.new) }
+    ensures later { K.faults sink.old ≤ K.faults sink.new }
+{
+    let mut text = Bytes::new(alloc);
+    if text.append(b"trace\n").is_err() {
+        return Err(WriteError::NoMemory);
+    }
+    put_rows(&mut text, header.routers.as_slice(), rows, sink)
 }
 
 /// Writes the line of a router's state. At an error a front of it was written.

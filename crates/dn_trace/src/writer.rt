@@ -87,7 +87,7 @@ fn push_opening(text: &mut Bytes, before: u64, rows: &[Row]) -> Result<(), NoMem
 }
 
 /// Writes what is gathered and then the rows.
-fn put_rows<K: Sink>(
+pub(crate) fn put_rows<K: Sink>(
     text: &mut Bytes,
     routers: &[RouterDef],
     rows: &[Row],

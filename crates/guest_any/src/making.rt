@@ -1,15 +1,17 @@
 //! The guest with which a router begins.
 
-ghost use Rattle.std.specs.Prelude.{◌≡◌, ◌<◌, ◌≤◌, length, map, IfOk, IsTrue, Some, slice_get};
-ghost use Rattle.dn_model.specs.Kinds.{is_built};
-ghost use Rattle.rip_guest.specs.State.{opening};
+ghost use Rattle.std.specs.Prelude.{◌≡◌, ◌<◌, ◌≤◌, length, map, IfOk, Some, slice_get};
+ghost use Rattle.ospf_router.specs.State.{opening as opening_ospf};
+ghost use Rattle.rip_guest.specs.State.{opening as opening_rip};
 ghost use Rattle.guest_any.specs.declared.any.AnyGuest.TheVariants as any;
 ghost use Rattle.guest_any.specs.Openings.{costs_of, networks_of, opening_guest};
 
 use crate::AnyGuest;
 use dn_guest::{Flood, NoMemory};
 use dn_model::{End, Header, Kind, Prefix, RouterDef, ends};
-use rip_guest::{Costs, PrefixList, Rip, RipSettings};
+use ospf_guest::Ospf;
+use ospf_router::OspfSettings;
+use rip_guest::{Rip, RipSettings};
 use std::alloc::Global;
 
 /// The guest of a router before the first event, by the router's kind. Its settings are the router's
@@ -22,19 +24,36 @@ pub fn make(alloc: Global, header: &Header, router: u16) -> Result<AnyGuest, NoM
     let definition = router_of(header, router);
     match definition.kind {
         Kind::Flood => Ok(AnyGuest::Flood(Flood::new(alloc))),
-        Kind::Ospf => unreachable!(),
+        Kind::Ospf => make_ospf(alloc, header, router, definition.prefixes.as_slice()),
         Kind::Rip => make_rip(alloc, header, router, definition.prefixes.as_slice()),
     }
 }
 
-/// The router of this number, whose kind is built.
-#[tactic(auto, using(crate::proofs::Built::built_at))]
+/// The router of this number.
 fn router_of(header: &Header, router: u16) -> &RouterDef
     requires { router < length header.now.routers }
-    ensures found { slice_get header.now.routers router ≡ Some result.now }
-    ensures built { IsTrue (is_built result.now.kind) }
+    ensures { slice_get header.now.routers router ≡ Some result.now }
 {
     &header.routers.as_slice()[usize::from(router)]
+}
+
+/// The OSPF guest of a router with these prefixes.
+fn make_ospf(
+    alloc: Global,
+    header: &Header,
+    router: u16,
+    prefixes: &[Prefix],
+) -> Result<AnyGuest, NoMemory>
+    requires { router < length header.now.routers }
+    ensures { IfOk result (λ guest. guest ≡ any.Ospf (opening_ospf router (costs_of header.now router) (networks_of prefixes.now))) }
+{
+    let ends = ends(alloc, header, router)?;
+    let settings = OspfSettings {
+        number: router,
+        costs: ospf_router::Costs::from_vec(costs_of(alloc, ends.as_slice())?),
+        prefixes: ospf_router::PrefixList::from_vec(networks_of(alloc, prefixes)?),
+    };
+    Ok(AnyGuest::Ospf(Ospf::new(alloc, &settings)?))
 }
 
 /// The RIP guest of a router with these prefixes.
@@ -45,35 +64,35 @@ fn make_rip(
     prefixes: &[Prefix],
 ) -> Result<AnyGuest, NoMemory>
     requires { router < length header.now.routers }
-    ensures { IfOk result (λ guest. guest ≡ any.Rip (opening router (costs_of header.now router) (networks_of prefixes.now))) }
+    ensures { IfOk result (λ guest. guest ≡ any.Rip (opening_rip router (costs_of header.now router) (networks_of prefixes.now))) }
 {
     let ends = ends(alloc, header, router)?;
     let settings = RipSettings {
         number: router,
-        costs: costs_of(alloc, ends.as_slice())?,
-        prefixes: networks_of(alloc, prefixes)?,
+        costs: rip_guest::Costs::from_vec(costs_of(alloc, ends.as_slice())?),
+        prefixes: rip_guest::PrefixList::from_vec(networks_of(alloc, prefixes)?),
     };
     Ok(AnyGuest::Rip(Rip::new(alloc, &settings)?))
 }
 
 /// The costs of the ports, in order.
-fn costs_of(alloc: Global, ends: &[End]) -> Result<Costs, NoMemory>
-    ensures { IfOk result (λ costs. costs ≡ map (λ e. e.cost) ends.now) }
+fn costs_of(alloc: Global, ends: &[End]) -> Result<Vec<u16>, NoMemory>
+    ensures { IfOk result (λ costs. costs.items ≡ map (λ e. e.cost) ends.now) }
 {
     let mut costs = Vec::new(alloc);
     for end in ends {
         costs.push(end.cost)?;
     }
-    Ok(Costs::from_vec(costs))
+    Ok(costs)
 }
 
-/// The prefixes as RIP's settings have them.
-fn networks_of(alloc: Global, prefixes: &[Prefix]) -> Result<PrefixList, NoMemory>
-    ensures { IfOk result (λ networks. networks ≡ networks_of prefixes.now) }
+/// The prefixes as settings have them.
+fn networks_of(alloc: Global, prefixes: &[Prefix]) -> Result<Vec<(u32, u8, u16)>, NoMemory>
+    ensures { IfOk result (λ networks. networks.items ≡ networks_of prefixes.now) }
 {
     let mut networks = Vec::new(alloc);
     for prefix in prefixes {
         networks.push((prefix.address, prefix.len, prefix.cost))?;
     }
-    Ok(PrefixList::from_vec(networks))
+    Ok(networks)
 }

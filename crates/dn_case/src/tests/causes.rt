@@ -20,6 +20,10 @@ const FED: &str =
 const PREFIXED: &str =
     "defined 1\nperiod 10\ngroups 3\nseed 7\nrouter a flood\nrouter r rip\nlink a r 5 9\nprefix r 10.0.0.0/8 1\n";
 
+/// A flooding router and an OSPF router, which has a prefix.
+const PREFIXED_OSPF: &str =
+    "defined 1\nperiod 10\ngroups 3\nseed 7\nrouter a flood\nrouter o ospf\nlink a o 5 9\nprefix o 10.0.0.0/8 65535\n";
+
 #[test]
 fn first_lines(rt: HostRuntime) -> Result<(), Fail> {
     let table = "defined 2|1 version
@@ -69,8 +73,9 @@ fn routers(rt: HostRuntime) -> Result<(), Fail> {
 link a b 1 1|5 syntax
 prefix a 10.0.0.0/8 1|5 syntax
 router a bgp|5 syntax
-router a ospf|5 syntax
 router a Rip|5 syntax
+router a ospf2|5 syntax
+router a Ospf|5 syntax
 router 1a flood|5 syntax
 router A flood|5 syntax
 router abcdefghijklmnopq flood|5 syntax
@@ -153,6 +158,28 @@ router b rip|9 syntax
 ";
     assert_eq!(rt;
         first_wrong(rt.alloc(), PREFIXED, "\n", table)?.as_str(),
+        ""
+    );
+    Ok(())
+}
+
+#[test]
+fn prefixes_of_an_ospf_router(rt: HostRuntime) -> Result<(), Fail> {
+    let table = "prefix o 11.0.0.0/8 0|9 range
+prefix o 11.0.0.0/8 65536|9 range
+prefix o 10.0.0.1/8 65536|9 range
+prefix o 11.0.0.0/8 16|10 ended
+prefix o 11.0.0.0/8 65535|10 ended
+prefix o 10.0.0.0/8 1|9 twice
+prefix o 10.0.0.1/8 1|9 host
+prefix o 10.0.0.0/9 1|10 ended
+prefix o 0.0.0.0/0 1|10 ended
+prefix o 0.0.0.1/0 1|9 host
+prefix a 10.0.0.0/8 1|9 kind
+router b ospf|9 syntax
+";
+    assert_eq!(rt;
+        first_wrong(rt.alloc(), PREFIXED_OSPF, "\n", table)?.as_str(),
         ""
     );
     Ok(())

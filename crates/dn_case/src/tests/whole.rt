@@ -2,8 +2,8 @@
 
 use super::{fault_of, word};
 use crate::{
-    a_spelled_line_is_read, a_text_has_one_case, a_text_has_one_first_bad_line,
-    a_written_case_is_read, read_case, split_trace, write_case,
+    KnownHeader, a_line_has_one_external, a_spelled_line_is_read, a_text_has_one_case,
+    a_text_has_one_first_bad_line, a_written_case_is_read, read_case, split_trace, write_case,
 };
 use dn_guest::Bytes;
 use std::alloc::Global;
@@ -25,6 +25,10 @@ const MIXED: &str =
 const ORDERED: &str =
     "defined 1\nperiod 10\ngroups 3\nseed 7\nrouter a rip\nrouter f flood\nrouter b rip\nlink a b 5 9\nprefix a 192.168.0.255/32 1\nprefix a 0.0.0.0/0 15\nprefix b 10.0.1.0/24 2\nprefix b 10.0.0.0/24 3\nfeed\nend\n";
 
+/// A router of each kind.
+const EACH_KIND: &str =
+    "defined 1\nperiod 10\ngroups 3\nseed 7\nrouter o ospf\nrouter f flood\nrouter r rip\nlink o f 5 9\nlink r o 5 9\nprefix o 10.0.6.0/24 65535\nprefix o 0.0.0.0/0 16\nprefix r 10.0.6.0/24 15\nfeed\n@1 o down 1\nend\n";
+
 /// The text of the case that is read of a text.
 fn again(alloc: Global, text: &str) -> Result<Bytes, Fail> {
     let (case, _) = read_case(alloc, text.as_bytes())
@@ -37,7 +41,7 @@ fn again(alloc: Global, text: &str) -> Result<Bytes, Fail> {
 
 #[test]
 fn what_is_read_is_written(rt: HostRuntime) -> Result<(), Fail> {
-    for text in [PAIR, GREATEST, ORDERED] {
+    for text in [PAIR, GREATEST, ORDERED, EACH_KIND] {
         assert_eq!(rt; again(rt.alloc(), text)?.as_slice(), text.as_bytes());
     }
     Ok(())
@@ -142,6 +146,43 @@ fn a_command_has_at_most_255_bytes(rt: HostRuntime) -> Result<(), Fail> {
 }
 
 #[test]
+fn externals_of_a_header(rt: HostRuntime) -> Result<(), Fail> {
+    let (case, _) = read_case(rt.alloc(), PAIR.as_bytes())
+        .ok()
+        .ok_or("it is a case")?;
+    let known = KnownHeader::new(rt.alloc(), &case.header)?;
+    assert_eq!(rt; known.number_of(b"b"), Some(1));
+    assert_eq!(rt; known.number_of(b"c"), None);
+    let external = known
+        .external(rt.alloc(), b"@3 b up 0\n")?
+        .ok_or("it is an external")?;
+    assert_eq!(rt; (external.group, external.router), (3, 1));
+    Ok(())
+}
+
+#[test]
+fn no_external_of_a_header(rt: HostRuntime) -> Result<(), Fail> {
+    let (case, _) = read_case(rt.alloc(), PAIR.as_bytes())
+        .ok()
+        .ok_or("it is a case")?;
+    let known = KnownHeader::new(rt.alloc(), &case.header)?;
+    for line in [
+        "@3 b up 0",
+        "@4 b up 0\n",
+        "@3 c up 0\n",
+        "@3 b up 1\n",
+        "@3 b cmd \n",
+        "@3  b up 0\n",
+        "end\n",
+        "",
+    ] {
+        let found = known.external(rt.alloc(), line.as_bytes())?;
+        assert!(rt; found.is_none(), "at {line}");
+    }
+    Ok(())
+}
+
+#[test]
 fn no_trace_section(rt: HostRuntime) {
     for text in ["", "trace", "tracer\n", "end trace 0\n", "\ntrace\n"] {
         assert_eq!(rt; split_trace(text.as_bytes()), 0, "at {text}");
@@ -166,5 +207,6 @@ fn the_laws_can_be_called() {
     a_text_has_one_case();
     a_text_has_one_first_bad_line();
     a_spelled_line_is_read();
+    a_line_has_one_external();
     a_written_case_is_read();
 }

@@ -1,16 +1,11 @@
 //! A triangle of RIP routers.
 
-ghost use Rattle.std.specs.Prelude.{◌≡◌, ◌<◌, length, IfOk};
-
+use super::shown::{engine_of, router_count, shown_before};
 use super::{joined, plain_outcome};
 use crate::status_number;
 use crate::written::guests_of;
 use dn_case::read_case;
-use dn_guest::{Bytes, Guest, NoMemory};
-use dn_lockstep::Engine;
-use dn_model::Case;
-use guest_any::AnyGuest;
-use std::alloc::Global;
+use dn_guest::{Bytes, Guest};
 use std::test::Fail;
 
 /// Router a has the network 10.9.0.0/16, and withdraws it in group 40.
@@ -70,7 +65,7 @@ fn a_router_begins_with_its_settings(rt: HostRuntime) -> Result<(), Fail> {
 }
 
 /// Two RIP routers of which a has a network, for two groups.
-const PAIR: &[u8] = b"\
+pub const PAIR: &[u8] = b"\
     defined 1\n\
     period 100\n\
     groups 2\n\
@@ -111,49 +106,6 @@ fn two_rip_routers_tell_each_other(rt: HostRuntime) -> Result<(), Fail> {
     Ok(())
 }
 
-/// Handles all rows before the first of the group.
-fn run_until(alloc: Global, engine: &mut Engine<AnyGuest>, group: u32) -> Result<(), NoMemory>
-    ensures { engine.new.header ≡ engine.old.header }
-{
-    for _ in 0..10_000 {
-        match engine.peek() {
-            None => return Ok(()),
-            Some(event) => {
-                if event.key.group >= group {
-                    return Ok(());
-                }
-            }
-        }
-        let _next = engine.next(alloc)?;
-    }
-    Ok(())
-}
-
-/// What router b shows before the first row of the group.
-fn shown_before(alloc: Global, engine: &mut Engine<AnyGuest>, group: u32) -> Result<Bytes, NoMemory>
-    requires { 1 < length engine.old.header.routers }
-    ensures { engine.new.header ≡ engine.old.header }
-{
-    run_until(alloc, engine, group)?;
-    let mut shown = Bytes::new(alloc);
-    engine.node(1).guest.show(alloc, &mut shown)?;
-    Ok(shown)
-}
-
-/// How many routers the case has.
-fn router_count(case: &Case) -> usize
-    ensures { result ≡ length case.now.header.routers }
-{
-    case.header.routers.as_slice().len()
-}
-
-/// The engine before the first row.
-fn engine_of(alloc: Global, case: &Case) -> Result<Engine<AnyGuest>, NoMemory>
-    ensures { IfOk result (λ made. made.header ≡ case.now.header) }
-{
-    Engine::new(alloc, case, guests_of(alloc, case)?)
-}
-
 /// A network that is withdrawn is told at metric 16, and is gone 120 ticks later.
 #[test]
 fn a_withdrawn_network_is_told_and_collected(rt: HostRuntime) -> Result<(), Fail> {
@@ -165,16 +117,16 @@ fn a_withdrawn_network_is_told_and_collected(rt: HostRuntime) -> Result<(), Fail
         return Ok(());
     }
     let mut engine = engine_of(alloc, &case)?;
-    let told = shown_before(alloc, &mut engine, 40)?;
+    let told = shown_before(alloc, &mut engine, 1, 40)?;
     assert_eq!(rt; told.as_slice(), b"route 10.9.0.0/16 2 via 0\n".as_slice());
-    let withdrawn = shown_before(alloc, &mut engine, 41)?;
+    let withdrawn = shown_before(alloc, &mut engine, 1, 41)?;
     assert_eq!(rt;
         withdrawn.as_slice(),
         b"route 10.9.0.0/16 16 via 0\n".as_slice()
     );
-    let kept = shown_before(alloc, &mut engine, 160)?;
+    let kept = shown_before(alloc, &mut engine, 1, 160)?;
     assert_eq!(rt; kept.as_slice(), b"route 10.9.0.0/16 16 via 0\n".as_slice());
-    let collected = shown_before(alloc, &mut engine, 161)?;
+    let collected = shown_before(alloc, &mut engine, 1, 161)?;
     assert_eq!(rt; collected.as_slice(), b"".as_slice());
     Ok(())
 }

@@ -1,4 +1,4 @@
-use Rattle.std.proofs.Common.{◌≡◌, true, sym, ap, ◌∙◌, Decides}
+use Rattle.std.proofs.Common.{◌≡◌, sym, ap, ◌∙◌, Decides}
 use Rattle.std.specs.Ordering.{is_eq}
 use Rattle.std.proofs.lemmas.Slice.Eq.{slice_eq-Decides}
 use Rattle.dn_model.specs.declared.event.Event.{Event}

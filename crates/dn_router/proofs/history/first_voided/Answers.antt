@@ -1,8 +1,4 @@
-use Rattle.std.proofs.Common.{◌≡◌, Bool, ◌||◌, length, take, sym, ap, ◌∙◌}
-use Rattle.dn_model.specs.declared.event.Event.{Event}
-use Rattle.dn_world.specs.World.{stands}
-use Rattle.dn_world.specs.Steps.{until}
-use Rattle.std.proofs.lemmas.List.{take_all}
+use Rattle.std.proofs.Common.{length, sym, ap, ◌∙◌}
 use Rattle.dn_router.proofs.Until.{voided_none, voided_found, voided_missed}
 use Rattle.dn_router.proofs.history.first_voided.Goals.{in-Some, in_default}
 use Rattle.dn_router.proofs.history.first_voided.Goals as goal

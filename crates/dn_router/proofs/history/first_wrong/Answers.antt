@@ -1,8 +1,7 @@
-use Rattle.std.proofs.Common.{◌≡◌, ◌||◌, List, sym, ap, ◌∙◌, length}
+use Rattle.std.proofs.Common.{◌||◌, List, ap, ◌∙◌, length}
 use Rattle.dn_model.specs.declared.event.Event.{Event}
 use Rattle.dn_world.specs.World.{stands}
 use Rattle.dn_world.specs.Steps.{is_after_first, is_wrong, until}
-use Rattle.dn_router.proofs.Until.{until_same}
 use Rattle.dn_router.proofs.history.first_wrong.Goals as goal
 
 pub returns : goal.returns

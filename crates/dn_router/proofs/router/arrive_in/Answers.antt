@@ -1,5 +1,4 @@
-use Rattle.std.proofs.Common.{◌≡◌, true, false, [], ◌∷◌, sym, ap, ◌∙◌}
-use Rattle.dn_world.specs.World.{with_todo, with_void}
+use Rattle.std.proofs.Common.{◌∙◌}
 use Rattle.dn_world.specs.Steps.{arrived}
 use Rattle.dn_router.proofs.Answers.{on_ok}
 use Rattle.dn_router.proofs.router.arrive_in.Goals as goal

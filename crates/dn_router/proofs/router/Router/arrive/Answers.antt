@@ -1,12 +1,11 @@
-use Rattle.std.proofs.Common.{◌≡◌, ℕ, ◌<◌, Bool, List, length, sym, ap, ◌∙◌, subst, arith}
-use Rattle.dn_model.specs.declared.event.Event.{Event}
+use Rattle.std.proofs.Common.{◌≡◌, ℕ, length, sym, ap, ◌∙◌, subst, arith}
 use Rattle.dn_world.specs.declared.packet.Packet.{Packet}
 use Rattle.dn_world.specs.World.{Part, stands}
 use Rattle.dn_world.specs.Steps.{arrived}
 use Rattle.dn_world.specs.Runs.{IsPast}
 use Rattle.dn_router.specs.Routers.{Speculation}
 use Rattle.dn_router.specs.Sound.{IsSound, marked_in, recounted}
-use Rattle.dn_router.proofs.Marks.{Counts, counted, voids_change}
+use Rattle.dn_router.proofs.Marks.{counted, voids_change}
 use Rattle.dn_router.proofs.Sound.{beside, seen, arrived_beside, sound_arrived}
 use Rattle.dn_router.proofs.router.Router.arrive.Goals as goal
 

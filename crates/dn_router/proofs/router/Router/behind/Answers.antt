@@ -1,6 +1,6 @@
-use Rattle.std.proofs.Common.{◌≡◌, ℕ, ◌<◌, ◌≤◌, sym, ap, ◌∙◌, subst, List}
+use Rattle.std.proofs.Common.{◌<◌, ◌≤◌, sym, ap, ◌∙◌, subst, List}
 use Rattle.dn_model.specs.declared.event.Event.{Event}
-use Rattle.dn_world.specs.World.{Part, is_behind, is_before_last}
+use Rattle.dn_world.specs.World.{is_behind, is_before_last}
 use Rattle.dn_router.proofs.Marks.{behind_marked, behind_first, behind_nothing}
 use Rattle.dn_router.proofs.Sound.{beside}
 use Rattle.dn_router.proofs.router.Router.behind.Goals as goal

@@ -1,10 +1,11 @@
-use Rattle.std.proofs.Common.{◌≡◌, ℕ, ◌≤◌, List, ◌++◌, length, take, length-take, sym, ap, ◌∙◌, subst, arith}
-use Rattle.std.specs.List.{AllByRecursion}
+use Rattle.std.proofs.Common.{◌≡◌, ℕ, not, List, ◌++◌, take, drop, sym, ap, ◌∙◌, subst, arith}
+use Rattle.std.specs.List.{AllByRecursion, filter}
 use Rattle.dn_model.specs.declared.event.Event.{Event}
-use Rattle.dn_model.specs.declared.key.Key.{Key}
+use Rattle.dn_model.specs.Order.{is_below}
 use Rattle.dn_model.specs.Settled.{below}
 use Rattle.dn_world.specs.Runs.{IsPast}
 use Rattle.dn_router.specs.Sound.{IsSound}
+use Rattle.dn_router.proofs.Fresh.{fresh_is}
 use Rattle.dn_router.proofs.Rising.{fewer_below, count_is}
 use Rattle.dn_router.proofs.Sound.{beside, sound_committed}
 use Rattle.dn_router.proofs.router.Router.commit_below.Goals as goal
@@ -30,3 +31,20 @@ invariant_of-self g c =
     subst (λ (l : List Event). AllByRecursion (λ e. IsPast key e.key) l) (sym (ap (λ s. s.part.todo ++ s.part.voids) c.self.view_is)) c.requires.waiting in
     let sound = sound_committed m c.self.inside.number c.self.inside.timing.period c.self.inside.opening p c.self.inside.shelf c.self.inside.wrong c.self.inside.committed c.self.inside.bound key c.self.invariant waiting in
     subst (λ (k : ℕ). IsSound m c.self.inside.number c.self.inside.timing.period c.self.inside.opening p c.self.inside.shelf c.self.inside.wrong k key) count sound
+
+pub returns-clause-fresh : goal.returns-clause-fresh
+returns-clause-fresh g c =
+    let done = c.self.inside.done.items in
+    let key = c.args.key.now in
+    let first = c.as_slice.ensures.value in
+    let second = c.as_slice-2.ensures.value in
+    let count = c.count_below-count.result in
+    let front : below key done ≡ take count done = ap (below key) (sym first) ∙ c.count_below-count.ensures.front ∙ ap (take count) first in
+    let rising : IsPast c.self.inside.bound key = subst (λ b. IsPast b key) (sym (ap (λ s. s.bound) c.self.view_is)) c.requires.rising in
+    c.in_ok-rows.ensures
+    ∙ c.between-fresh.ensures
+    ∙ ap (λ (l : List Event). drop c.self.inside.committed (take count l)) second
+    ∙ ap (drop c.self.inside.committed) (sym front)
+    ∙ ap (λ n. drop n (below key done)) c.self.invariant.committed
+    ∙ fresh_is c.self.inside.bound key done rising c.self.invariant.sorted
+    ∙ ap (λ s. filter (λ e. not (is_below s.bound e)) (below key s.part.done)) c.self.view_is

@@ -1,11 +1,9 @@
 use Rattle.std.proofs.Common.{◌≡◌, ℕ, suc, ◌+◌, List, [], ◌∷◌, ◌++◌, length, take, drop, sym, ap, ◌∙◌, subst, arith}
-use Rattle.std.specs.Prelude.{slice_get}
 use Rattle.dn_guest.specs.declared.node.Node.{Node}
-use Rattle.dn_guest.specs.declared.node.Sent.{Sent}
 use Rattle.dn_model.specs.declared.event.Event.{Event}
 use Rattle.dn_model.specs.declared.link.End.{End}
 use Rattle.dn_model.specs.Network.{emitted_by}
-use Rattle.dn_world.specs.World.{Part, is_ready, is_behind}
+use Rattle.dn_world.specs.World.{Part, is_ready}
 use Rattle.dn_ckpt.specs.Shelves.{with_kept}
 use Rattle.dn_router.specs.Replays.{node_over, last_sent, nodes_over}
 use Rattle.dn_router.specs.Routers.{node_of, emits_next}

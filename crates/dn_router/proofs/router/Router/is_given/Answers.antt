@@ -1,12 +1,11 @@
-use Rattle.std.proofs.Common.{◌≡◌, ◌≤◌, true, false, List, ◌∷◌, [], ◌++◌, length, drop, sym, ap, ◌∙◌, subst, arith}
-use Rattle.std.specs.Prelude.{slice_get}
-use Rattle.std.proofs.lemmas.Bool.{both_ways, false≢true}
+use Rattle.std.proofs.Common.{◌≡◌, List, ◌∷◌, [], ◌++◌, length, drop, sym, ap, ◌∙◌, arith}
+use Rattle.std.proofs.lemmas.Bool.{false≢true}
 use Rattle.dn_model.specs.declared.event.Event.{Event}
 use Rattle.dn_world.specs.World.{is_ready}
 use Rattle.dn_router.specs.Routers.{order_of}
 use Rattle.dn_router.proofs.Marks.{ready_waits, first_waits}
 use Rattle.dn_router.proofs.Replays.{has_is, base_last}
-use Rattle.dn_router.proofs.Ordering.{order_parts, order_base, order_inputs}
+use Rattle.dn_router.proofs.Ordering.{order_parts, order_base}
 use Rattle.dn_router.proofs.Sound.{beside, seen}
 use Rattle.dn_router.proofs.router.Router.is_given.Goals as goal
 

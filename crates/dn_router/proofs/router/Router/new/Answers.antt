@@ -1,4 +1,4 @@
-use Rattle.std.proofs.Common.{◌≡◌, ℕ, List, [], ◌∷◌, sym, ap, ◌∙◌, subst}
+use Rattle.std.proofs.Common.{◌≡◌, ℕ, List, [], sym, ◌∙◌, subst}
 use Rattle.dn_guest.specs.declared.node.Node.{Node}
 use Rattle.dn_model.specs.declared.key.Key.{Key}
 use Rattle.dn_world.specs.World.{Part, no_part}

@@ -1,4 +1,4 @@
-use Rattle.std.proofs.Common.{◌≡◌, List, length, sym, ap, ◌∙◌}
+use Rattle.std.proofs.Common.{ap, ◌∙◌}
 use Rattle.dn_router.specs.Routers.{node_of}
 use Rattle.dn_router.proofs.Replays.{has_is, base_last}
 use Rattle.dn_router.proofs.router.Router.node.Goals as goal

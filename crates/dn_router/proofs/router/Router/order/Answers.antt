@@ -1,5 +1,4 @@
-use Rattle.std.proofs.Common.{◌≡◌, ◌≤◌, List, ◌∷◌, [], ◌++◌, length, drop, refl, sym, ap, ◌∙◌, subst, arith}
-use Rattle.std.specs.Prelude.{slice_get}
+use Rattle.std.proofs.Common.{◌≡◌, List, ◌∷◌, [], ◌++◌, length, drop, refl, ap, ◌∙◌, arith}
 use Rattle.dn_model.specs.declared.event.Event.{Event}
 use Rattle.dn_world.specs.World.{is_ready}
 use Rattle.dn_router.specs.Routers.{order_of}

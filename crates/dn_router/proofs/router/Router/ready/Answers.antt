@@ -1,6 +1,5 @@
-use Rattle.std.proofs.Common.{◌≡◌, Bool, true, false, not, ◌&&◌, sym, ap, ◌∙◌}
-use Rattle.std.specs.Prelude.{slice_get, option_copied}
-use Rattle.dn_world.specs.World.{Part, is_behind, is_ready}
+use Rattle.std.proofs.Common.{false, not, sym, ap, ◌∙◌}
+use Rattle.std.specs.Prelude.{slice_get}
 use Rattle.dn_router.proofs.Marks.{some_waits, ready_is, behind_unready}
 use Rattle.dn_router.proofs.router.Router.ready.Goals as goal
 

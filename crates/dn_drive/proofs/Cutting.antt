@@ -1,0 +1,41 @@
+-- Only a Commit moves the boundary, so no other step cuts a world.
+use Rattle.std.proofs.Common.{◌≡◌, ℕ, true, false, nat_lt, List, [], ◌∷◌, length, refl, sym, ap, ◌∙◌}
+use Rattle.std.specs.Prelude.{Option, Some, None, slice_get}
+use Rattle.dn_model.specs.declared.event.Event.{Event}
+use Rattle.dn_model.specs.Network.{Network}
+use Rattle.dn_model.specs.Settled.{row_limit}
+use Rattle.dn_world.specs.declared.packet.Packet.{Packet}
+use Rattle.dn_world.specs.declared.step.Step.{Step}
+use Rattle.dn_world.specs.declared.step.Step.TheVariants.{Beacon, Inject, Close, Deliver, Handle, RollBack, Commit}
+use Rattle.dn_world.specs.World.{Part, World, part}
+use Rattle.dn_world.specs.Steps.{is_enabled, beacon, inject, deliver, handle, roll_back, after}
+use Rattle.dn_world.specs.Runs.{IsAllPast, IsBalanced, settled_rows, is_cut_off}
+use Rattle.dn_world.proofs.Balance.{counted}
+use Rattle.dn_world.proofs.Growth.{rows_stay}
+
+deliver_bound : (w : World) (place : ℕ) (o : Option Packet) → (deliver w place o).boundary ≡ w.boundary
+unfolding deliver
+deliver_bound w place None = refl
+deliver_bound w place (Some k) = refl
+
+module _ {S : Type 0} (net : Network S) where
+  handle_bound : (w : World) (r : ℕ) (p : Part) (es : List Event) → (handle net w r p es).boundary ≡ w.boundary
+  unfolding handle
+  handle_bound w r p [] = refl
+  handle_bound w r p (e ∷ es) = refl
+
+  same_cut : (w : World) (s : Step) → is_enabled net w s ≡ true → IsBalanced net w → IsAllPast net w.boundary w → (after net w s).boundary ≡ w.boundary → is_cut_off net w ≡ false → is_cut_off net (after net w s) ≡ true → s ≡ Commit
+  unfolding is_cut_off
+  same_cut w s h b p e un cu =
+      let same : nat_lt row_limit (length (settled_rows net (after net w s))) ≡ nat_lt row_limit (length (settled_rows net w)) = ap (λ rs. nat_lt row_limit (length rs)) (rows_stay net w s h (counted net w b) p e) in
+      absurd (let both : true ≡ false = sym cu ∙ same ∙ un in cc)
+
+  pub only_commit_cuts : (w : World) (s : Step) → is_enabled net w s ≡ true → IsBalanced net w → IsAllPast net w.boundary w → is_cut_off net w ≡ false → is_cut_off net (after net w s) ≡ true → s ≡ Commit
+  unfolding after beacon inject roll_back
+  only_commit_cuts w Beacon h b p un cu = same_cut w Beacon h b p refl un cu
+  only_commit_cuts w (Inject x) h b p un cu = same_cut w (Inject x) h b p refl un cu
+  only_commit_cuts w Close h b p un cu = same_cut w Close h b p refl un cu
+  only_commit_cuts w (Deliver place) h b p un cu = same_cut w (Deliver place) h b p (deliver_bound w place (slice_get w.flight place)) un cu
+  only_commit_cuts w (Handle r) h b p un cu = same_cut w (Handle r) h b p (handle_bound w r (part w r) (part w r).todo) un cu
+  only_commit_cuts w (RollBack r) h b p un cu = same_cut w (RollBack r) h b p refl un cu
+  only_commit_cuts w Commit h b p un cu = refl

@@ -1,0 +1,13 @@
+pub mod Networks
+pub mod May
+pub mod Stays
+pub mod Handling
+pub mod Counting
+pub mod Going
+pub mod Following
+pub mod Allowing
+pub mod Ending
+pub mod Ways
+pub mod Scheduling
+pub mod TestCases
+pub mod Cutting

@@ -1,0 +1,5 @@
+pub mod Allowed
+pub mod Choices
+pub mod Driving
+pub mod Counting
+pub mod Endings

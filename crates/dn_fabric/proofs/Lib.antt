@@ -1,0 +1,16 @@
+pub mod Cutting
+pub mod Stepping
+pub mod Nets
+pub mod Calls
+pub mod Enabled
+pub mod Taken
+pub mod Opened
+pub mod Promised
+pub mod Working
+pub mod Arrivals
+pub mod Leasts
+pub mod Commits
+pub mod Whole
+pub mod Turns
+pub mod Settling
+pub mod TestCases

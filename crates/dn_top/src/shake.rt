@@ -1,0 +1,175 @@
+//! `shake`: the steps of a schedule are taken one by one.
+
+ghost use Rattle.std.specs.Prelude.{◌≡◌, ◌≢◌, ◌<◌, ◌≤◌, ◌++◌, [], true, false, length, IfOk, IfSome, OnOk};
+ghost use Rattle.dn_io.specs.Streams.{Rose, Gives};
+ghost use Rattle.dn_model.specs.Cases.{IsRecording};
+ghost use Rattle.guest_any.specs.Any.{any};
+ghost use Rattle.dn_fabric.specs.Fabrics.{IsNetworkOf};
+ghost use Rattle.dn_drive.specs.Driving.{IsOpening};
+ghost use Rattle.dn_drive.specs.Endings.{IsLegalEnd, StandsAt};
+ghost use Rattle.dn_trace.specs.Trace.{end_text};
+ghost use Rattle.dn_journal.specs.Spelling.{journal_text};
+ghost use Rattle.dn_top.specs.Promises.{AnswersShake, network_of, outcome_of, steps_of, shaken, input_limit, is_of_whole_input, is_of_case, is_of_command};
+ghost use Rattle.dn_top.specs.Drives.{IsFabricOf, ShowsRun, Shows, Drives, is_illegal};
+
+use crate::driven::{fabric_of, push_ends, write_driven};
+use crate::input::{first_case, read_input};
+use crate::status::Status;
+use crate::words::Schedule;
+use dn_drive::{Ended, shake};
+use dn_fabric::Fabric;
+use dn_guest::{Bytes, NoMemory};
+use dn_io::{Sink, Source};
+use dn_journal::write_journal;
+use dn_model::{Case, External, Header};
+use dn_trace::Ending;
+use guest_any::AnyGuest;
+use std::alloc::Global;
+
+/// Reads a case, takes the steps of the schedule, and writes the recording, the trace and the journal.
+pub(crate) fn shake_case<S: Source, K: Sink>(
+    alloc: Global,
+    schedule: Schedule,
+    source: &mut S,
+    sink: &mut K,
+) -> Status
+    ensures answers { IfSome (S.left source.old) (λ input. AnswersShake schedule result input (K.holds sink.old) (K.holds sink.new)) }
+    ensures only { is_of_command result ≡ true }
+    ensures read { is_of_whole_input result ≡ true → IfSome (S.left source.new) (λ left. left ≡ []) }
+    ensures read_fault { result ≡ Status.ReadFault → Rose (S.faults source.old) (S.faults source.new) }
+    ensures write_fault { result ≡ Status.WriteFault → Rose (K.faults sink.old) (K.faults sink.new) }
+    ensures too_big { result ≡ Status.TooBig → Gives (S.left source.old) (S.left source.new) (λ came. input_limit < length came) }
+    ensures not_too_big { result ≢ Status.TooBig → Gives (S.left source.old) (S.left source.new) (λ came. length came ≤ input_limit) }
+    ensures source_later { S.faults source.old ≤ S.faults source.new }
+    ensures sink_later { K.faults sink.old ≤ K.faults sink.new }
+{
+    match read_input(alloc, source) {
+        Ok(input) => shake_input(alloc, schedule, input.as_slice(), sink),
+        Err(status) => status,
+    }
+}
+
+/// Takes the steps of the schedule for the case at the front of the input.
+fn shake_input<K: Sink>(alloc: Global, schedule: Schedule, input: &[u8], sink: &mut K) -> Status
+    requires { length input.now ≤ input_limit }
+    ensures answers { AnswersShake schedule result input.now (K.holds sink.old) (K.holds sink.new) }
+    ensures only { is_of_case result ≡ true }
+    ensures fault { result ≡ Status.WriteFault → Rose (K.faults sink.old) (K.faults sink.new) }
+    ensures later { K.faults sink.old ≤ K.faults sink.new }
+{
+    match first_case(alloc, input) {
+        Ok((case, _size)) => shake_steps(alloc, schedule, &case, sink),
+        Err(status) => status,
+    }
+}
+
+/// Takes the steps of the schedule on the case's fabric, as it is before the first one.
+fn scheduled(
+    alloc: Global,
+    case: &Case,
+    feed: &[External],
+    schedule: Schedule,
+    fabric: &mut Fabric<AnyGuest>,
+) -> Result<Ended, NoMemory>
+    requires opening { IsOpening fabric.old }
+    requires of { IsFabricOf case.now fabric.old }
+    requires rules { IsRecording case.now }
+    requires same { case.now.feed ≡ feed.now }
+    ensures comes { IfOk result (λ ended. ended ≡ outcome_of case.now (steps_of case.now schedule)) }
+    ensures journal { IfOk result (λ ended. fabric.new.journal ≡ steps_of case.now schedule) }
+    ensures stands { IfOk result (λ ended. StandsAt (network_of case.now.header) case.now.feed ended fabric.new) }
+    ensures legal { IfOk result IsLegalEnd }
+    ensures of { IsFabricOf case.now fabric.new }
+{
+    shake(alloc, fabric, feed, schedule.number, schedule.steps)
+}
+
+/// Takes the steps, and writes what they come to.
+fn shake_steps<K: Sink>(alloc: Global, schedule: Schedule, case: &Case, sink: &mut K) -> Status
+    ensures answers { Drives case.now (outcome_of case.now (steps_of case.now schedule)) (shaken case.now (steps_of case.now schedule)) result (K.holds sink.old) (K.holds sink.new) }
+    ensures legal { is_illegal result ≡ false }
+    ensures fault { result ≡ Status.WriteFault → Rose (K.faults sink.old) (K.faults sink.new) }
+    ensures later { K.faults sink.old ≤ K.faults sink.new }
+{
+    let Ok(mut fabric) = fabric_of(alloc, case) else {
+        return Status::NoMemory;
+    };
+    let feed = case.feed.as_slice();
+    match scheduled(alloc, case, feed, schedule, &mut fabric) {
+        Ok(ended) => write_shake(alloc, case, &fabric, ended, sink),
+        Err(_) => Status::NoMemory,
+    }
+}
+
+/// Writes the recording, the trace and the journal, where there is a trace to show.
+fn write_shake<K: Sink>(
+    alloc: Global,
+    case: &Case,
+    fabric: &Fabric<AnyGuest>,
+    ended: Ended,
+    sink: &mut K,
+) -> Status
+    requires of { IsFabricOf case.now fabric.now }
+    requires stands { StandsAt (network_of case.now.header) case.now.feed ended fabric.now }
+    requires legal { IsLegalEnd ended }
+    ensures answers { Drives case.now ended (shaken case.now fabric.now.journal) result (K.holds sink.old) (K.holds sink.new) }
+    ensures legal { is_illegal result ≡ false }
+    ensures fault { result ≡ Status.WriteFault → Rose (K.faults sink.old) (K.faults sink.new) }
+    ensures later { K.faults sink.old ≤ K.faults sink.new }
+{
+    match ended {
+        Ended::Whole => write_shaken(alloc, case, fabric, Ending::Whole, sink),
+        Ended::Cut => write_shaken(alloc, case, fabric, Ending::Cut, sink),
+        Ended::Illegal(_) => unreachable!(),
+        Ended::Open => Status::Open,
+    }
+}
+
+/// Writes the recording, the trace and the journal.
+fn write_shaken<K: Sink>(
+    alloc: Global,
+    case: &Case,
+    fabric: &Fabric<AnyGuest>,
+    ending: Ending,
+    sink: &mut K,
+) -> Status
+    requires of { IsFabricOf case.now fabric.now }
+    requires shows { ShowsRun case.now ending fabric.now }
+    ensures answers { Shows ending (shaken case.now fabric.now.journal) result (K.holds sink.old) (K.holds sink.new) }
+    ensures fault { result ≡ Status.WriteFault → Rose (K.faults sink.old) (K.faults sink.new) }
+    ensures later { K.faults sink.old ≤ K.faults sink.new }
+{
+    let mut ends = Bytes::new(alloc);
+    match push_ends_and_journal(alloc, case, &case.header, fabric, ending, &mut ends) {
+        Ok(()) => write_driven(alloc, case, fabric.rows_from(0), ending, &ends, sink),
+        Err(_) => Status::NoMemory,
+    }
+}
+
+/// Appends how the trace ends behind its rows, and the journal.
+fn push_ends_and_journal(
+    alloc: Global,
+    case: &Case,
+    header: &Header,
+    fabric: &Fabric<AnyGuest>,
+    ending: Ending,
+    out: &mut Bytes,
+) -> Result<(), NoMemory>
+    requires of { IsFabricOf case.now fabric.now }
+    requires same { case.now.header ≡ header.now }
+    requires shows { ShowsRun case.now ending fabric.now }
+    ensures { OnOk result (out.new ≡ out.old ++ (end_text (network_of case.now.header) case.now.feed ++ journal_text case.now.header fabric.now.journal)) }
+{
+    let routers = header.routers.as_slice();
+    push_ends(alloc, case, routers, fabric, ending, out)?;
+    push_journal(header, fabric, out)
+}
+
+/// Appends the journal.
+fn push_journal(header: &Header, fabric: &Fabric<AnyGuest>, out: &mut Bytes) -> Result<(), NoMemory>
+    requires { IsNetworkOf (network_of header.now) any fabric.now.live.header fabric.now.live.openings }
+    ensures { OnOk result (out.new ≡ out.old ++ journal_text header.now fabric.now.journal) }
+{
+    let _groups = header.groups;
+    write_journal(header, fabric.journal(), out)
+}

@@ -1,0 +1,197 @@
+//! Journals that are taken step by step, and schedules.
+
+use super::{
+    CONTEST_SEED_7, PORT_DOWN, SMALLEST, SMALLEST_TRACE, TWO_ROUTERS, TWO_ROUTERS_TRACE, joined,
+    ospf, plain_outcome, rip, words_of,
+};
+use crate::{Command, Schedule, command_of, status_line, status_number};
+use dn_guest::{Bytes, NoMemory};
+use std::alloc::Global;
+use std::test::Fail;
+
+/// Journals of the smallest case, and the line that each is answered with.
+const JOURNALS: [(&[u8], &[u8]); 9] = [
+    (b"journal\nhandle a\nclose\ncommit\nend journal 3\n", b""),
+    (
+        b"journal\nhandle a\nclose\nend journal 2\n",
+        b"defined: open\n",
+    ),
+    (
+        b"journal\nrollback a\nhandle a\nclose\ncommit\nend journal 4\n",
+        b"defined: illegal step 1\n",
+    ),
+    (
+        b"journal\nhandle a\nclose\ncommit\nclose\nend journal 4\n",
+        b"defined: illegal step 4\n",
+    ),
+    (
+        b"journal\nhandle b\nclose\ncommit\nend journal 3\n",
+        b"defined: line 9: journal\n",
+    ),
+    (
+        b"journal\nhandle a\nclose\ncommit\nend journal 2\n",
+        b"defined: line 12: journal\n",
+    ),
+    (
+        b"journal\nhandle a\nclose\ncommit\nend journal 3\n\n",
+        b"defined: line 13: journal\n",
+    ),
+    (b"journal\nhandle a", b"defined: line 9: journal\n"),
+    (b"", b"defined: line 8: journal\n"),
+];
+
+#[test]
+fn a_journal_is_taken_step_by_step(rt: HostRuntime) -> Result<(), Fail> {
+    for (journal, line) in JOURNALS {
+        let input = joined(rt.alloc(), SMALLEST, journal)?;
+        let (status, sink) = plain_outcome(rt.alloc(), &["rerun"], input.as_slice())?;
+        assert_eq!(rt; status_line(rt.alloc(), &status)?.as_slice(), line);
+        let output = joined(rt.alloc(), SMALLEST, SMALLEST_TRACE)?;
+        let written = if line.is_empty() {
+            output.as_slice()
+        } else {
+            b""
+        };
+        assert_eq!(rt; sink.as_slice(), written);
+    }
+    Ok(())
+}
+
+/// What stands between the smallest case and its journal, and the line that a journal is answered with
+/// whose second line is bad.
+const SECTIONS: [(&[u8], &[u8], &[u8]); 4] = [
+    (
+        SMALLEST_TRACE,
+        b"journal\nhandle b\n",
+        b"defined: line 13: journal\n",
+    ),
+    (
+        b"trace\ncut 200000\n",
+        b"journal\nhandle b\n",
+        b"defined: line 11: journal\n",
+    ),
+    (b"trace\nend trace 0", b"", b"defined: line 10: journal\n"),
+    (b"trace", b"", b"defined: line 8: journal\n"),
+];
+
+#[test]
+fn a_trace_section_may_stand_before_the_journal(rt: HostRuntime) -> Result<(), Fail> {
+    for (section, journal, line) in SECTIONS {
+        let behind = joined(rt.alloc(), section, journal)?;
+        let input = joined(rt.alloc(), SMALLEST, behind.as_slice())?;
+        let (status, sink) = plain_outcome(rt.alloc(), &["rerun"], input.as_slice())?;
+        assert_eq!(rt; status_line(rt.alloc(), &status)?.as_slice(), line);
+        assert!(rt; sink.as_slice().is_empty());
+    }
+    Ok(())
+}
+
+/// What `shake` writes of the case is what `lockstep` writes, and a journal; and `rerun` takes the journal.
+fn is_shaken(alloc: Global, case: &[u8], number: &str) -> Result<bool, NoMemory> {
+    let (_, lockstep) = plain_outcome(alloc, &["lockstep"], case)?;
+    let words = ["shake", number, "--steps", "1000000"];
+    let (shaken, sink) = plain_outcome(alloc, &words, case)?;
+    let (again, copy) = plain_outcome(alloc, &["rerun"], sink.as_slice())?;
+    Ok(
+        status_number(&shaken) == 0
+            && status_number(&again) == 0
+            && copy.as_slice() == lockstep.as_slice()
+            && sink.as_slice().len() > lockstep.as_slice().len()
+            && sink.as_slice().starts_with(lockstep.as_slice()),
+    )
+}
+
+/// Three routers, one of each kind.
+const MIXED: &[u8] = b"\
+    defined 1\n\
+    period 100\n\
+    groups 3\n\
+    seed 5\n\
+    router a flood\n\
+    router b ospf\n\
+    router c rip\n\
+    link a b 10 1\n\
+    link b c 120 1\n\
+    link a c 30 1\n\
+    prefix b 10.9.0.0/16 1\n\
+    prefix c 10.8.0.0/16 1\n\
+    feed\n\
+    @0 a cmd 41\n\
+    @1 c cmd 020a08000010\n\
+    @2 b down 0\n\
+    end\n\
+";
+
+#[test]
+fn a_schedule_comes_to_the_lockstep_run(rt: HostRuntime) -> Result<(), Fail> {
+    for case in [
+        TWO_ROUTERS,
+        CONTEST_SEED_7,
+        PORT_DOWN,
+        ospf::PAIR,
+        rip::PAIR,
+        MIXED,
+    ] {
+        for number in ["0", "3", "18446744073709551615"] {
+            assert!(rt;
+                is_shaken(rt.alloc(), case, number)?,
+                "the schedule of {number}"
+            );
+        }
+    }
+    Ok(())
+}
+
+#[test]
+fn a_short_schedule_writes_nothing(rt: HostRuntime) -> Result<(), Fail> {
+    let words = ["shake", "3", "--steps", "1"];
+    let (status, sink) = plain_outcome(rt.alloc(), &words, TWO_ROUTERS)?;
+    assert_eq!(rt; status_number(&status), 10);
+    assert_eq!(rt;
+        status_line(rt.alloc(), &status)?.as_slice(),
+        b"defined: open\n".as_slice()
+    );
+    assert!(rt; sink.as_slice().is_empty());
+    Ok(())
+}
+
+/// What the words are.
+fn named(alloc: Global, words: &[&str]) -> Result<Option<Command>, NoMemory> {
+    let words = words_of(alloc, words)?;
+    Ok(command_of(words.as_slice()))
+}
+
+#[test]
+fn a_schedule_has_a_number_and_steps(rt: HostRuntime) -> Result<(), Fail> {
+    for words in [
+        &["shake"][..],
+        &["shake", "3"],
+        &["shake", "3", "--steps"],
+        &["shake", "3", "--steps", "0"],
+        &["shake", "3", "--steps", "1000001"],
+        &["shake", "03", "--steps", "1"],
+        &["shake", "3", "--steps", "01"],
+        &["shake", "-3", "--steps", "1"],
+        &["shake", "18446744073709551616", "--steps", "1"],
+        &["shake", "--steps", "1", "3"],
+        &["shake", "3", "--steps", "1", "--steps", "1"],
+        &["shake", "3", "--rows", "1"],
+        &["rerun", "3", "--steps", "1"],
+        &["rerun", "3"],
+    ] {
+        assert!(rt; named(rt.alloc(), words)?.is_none());
+    }
+    Ok(())
+}
+
+#[test]
+fn the_greatest_schedule(rt: HostRuntime) -> Result<(), Fail> {
+    let words = ["shake", "18446744073709551615", "--steps", "1000000"];
+    let schedule = Schedule {
+        number: 18_446_744_073_709_551_615,
+        steps: 1_000_000,
+    };
+    assert_eq!(rt; named(rt.alloc(), &words)?, Some(Command::Shake(schedule)));
+    assert_eq!(rt; named(rt.alloc(), &["rerun"])?, Some(Command::Rerun));
+    Ok(())
+}

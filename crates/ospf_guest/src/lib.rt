@@ -1,0 +1,26 @@
+//! The OSPF guest: a router that runs OSPF version 2 (RFC 2328), as a guest of the network. Its step is
+//! that of `ospf_router`; here are the bytes and the lines that tell its state.
+//!
+//! | File | What it has |
+//! |---|---|
+//! | `ospf.rt` | `Ospf`, the guest |
+//! | `image.rt` | the bytes that tell the state |
+//! | `ports_image.rt`, `database_image.rt` | their parts for the ports and for the database |
+//! | `show.rt` | the lines that tell neighbours and routes |
+//!
+//! The one contract upwards: `Ospf` is a `Guest` of sort 1 whose meaning is `ospf` of `specs/Ospf.antt`, on
+//! plain data: the step of `ospf_router`, the image and the show of `specs/`.
+#![tactic(auto)]
+
+mod database_image;
+mod image;
+mod ospf;
+mod ports_image;
+mod show;
+
+pub use ospf::Ospf;
+pub use ospf_router::{Costs, OspfSettings, PrefixList};
+pub use std::alloc::AllocError as NoMemory;
+
+#[cfg(test)]
+mod tests;
