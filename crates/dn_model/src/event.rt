@@ -42,7 +42,7 @@ impl Event {
         self.key
             .cmp(&other.key)
             .then(self.router.cmp(&other.router))
-            .then(self.input.cmp(&other.input))
+            .then_with(|| self.input.cmp(&other.input))
     }
 }
 

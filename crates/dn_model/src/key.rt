@@ -31,10 +31,16 @@ impl Key {
     fn order(&self, other: &Key) -> Ordering
         ensures { result ≡ key_cmp self.now other.now }
     {
-        self.group
-            .cmp(&other.group)
-            .then(self.sum.cmp(&other.sum))
-            .then(self.class.cmp(&other.class))
+        let group = self.group.cmp(&other.group);
+        if group.is_ne() {
+            return group;
+        }
+        let sum = self.sum.cmp(&other.sum);
+        if sum.is_ne() {
+            return sum;
+        }
+        self.class
+            .cmp(&other.class)
             .then(self.tie.cmp(&other.tie))
             .then(self.origin.cmp(&other.origin))
             .then(self.seq.cmp(&other.seq))
