@@ -9,7 +9,7 @@ use Rattle.dn_model.specs.Order.{event_cmp}
 use Rattle.dn_model.specs.Network.{Network, Family, injected, is_at, routers, sent, sent_to, state}
 use Rattle.dn_model.specs.Settled.{IsFeedOf, IsPrefixOf, IsSettled, IsSettledBelow, below, due, lockstep, rows, is_cut}
 use Rattle.dn_model.proofs.Rows.{joined_same}
-use Rattle.dn_model.proofs.Waves.{lockstep_settled, lockstep_settled_below}
+use Rattle.dn_model.proofs.Waves.{lockstep_settled, lockstep_settled_below, no_other_settled, no_other_settled_below}
 use Rattle.dn_world.specs.World.{dones, is_same, is_quiet}
 use Rattle.dn_world.specs.Runs.{Continues, IsPlayable, world, committed, is_cut_off}
 use Rattle.dn_world.proofs.Cases.{playable_from}
@@ -86,6 +86,8 @@ module _ {S : Type 0} (net : Network S) (f : Fabric S) (rules : IsHeading net.he
         done = same;
         settled = settled_same net f.live.world.accepted (dones f.live.world) (lockstep net f.live.world.accepted) same (lockstep_settled net f.live.world.accepted playable.timed sound.accepted);
         settled_below = λ bound. settled_below_same net f.live.world.accepted (dones f.live.world) (lockstep net f.live.world.accepted) same bound (lockstep_settled_below net f.live.world.accepted playable.timed sound.accepted bound);
+        no_other = λ g a r l. no_other_settled net f.live.world.accepted playable.timed sound.accepted g a r l ∙ sym (same r l);
+        no_other_below = λ bound g a r l. no_other_settled_below net f.live.world.accepted playable.timed sound.accepted bound g a r l ∙ ap (below bound) (sym (same r l));
         rows = λ e. reached.rows ∙ quiet_committed net playable f.live.world sound quiet e;
         cut = λ e. reached.cut ∙ quiet_cut net playable f.live.world sound quiet e;
       }

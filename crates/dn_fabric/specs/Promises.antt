@@ -4,8 +4,8 @@ use Rattle.std.specs.List.{filter, count_by}
 use Rattle.dn_model.specs.declared.event.Event.{Event}
 use Rattle.dn_model.specs.declared.key.Key.{Key}
 use Rattle.dn_model.specs.declared.feed.External.{External}
-use Rattle.dn_model.specs.Network.{Network, is_at, routers, sent, state}
-use Rattle.dn_model.specs.Settled.{IsPrefixOf, IsSettled, IsSettledBelow, lockstep, rows, shown_rows, is_cut}
+use Rattle.dn_model.specs.Network.{Network, Family, is_at, routers, sent, state}
+use Rattle.dn_model.specs.Settled.{IsPrefixOf, IsSettled, IsSettledBelow, AreSame, below, lockstep, rows, shown_rows, is_cut}
 use Rattle.dn_world.specs.World.{part, dones, horizon, is_same}
 use Rattle.dn_fabric.specs.Fabrics.{Live}
 
@@ -25,12 +25,14 @@ module _ {S : Type 0} (net : Network S) (l : Live S) where
     pub enough : (e : Event) → e.key.class ≡ 2 → count_by (is_same e) l.rows ≤ count_by (is_same e) (sent net e.key.origin (rows_at l e.key.origin))
     pub just : (e : Event) → e.key.class ≡ 2 → l.cut ≡ false → 0 < count_by (is_same e) l.rows → count_by (is_same e) l.rows ≡ count_by (is_same e) (sent net e.key.origin (rows_at l e.key.origin))
 
-  -- nothing waits any more: no unsend is left, and each router has handled its whole lockstep list of the accepted externals. These lists are the one settled family, also below every key
+  -- nothing waits any more: no unsend is left, and each router has handled its whole lockstep list of the accepted externals. These lists are a settled family, and no other is; the same below every key
   pub record IsAtRest : Type 0 where
     pub voids : (r : ℕ) → r < routers net → (part l.world r).voids ≡ []
     pub done : (r : ℕ) → r < routers net → (part l.world r).done ≡ lockstep net l.world.accepted r
     pub settled : IsSettled net l.world.accepted (dones l.world)
     pub settled_below : (bound : Key) → IsSettledBelow net l.world.accepted bound (dones l.world)
+    pub no_other : (f : Family) → IsSettled net l.world.accepted f → AreSame net l.world.accepted f (dones l.world)
+    pub no_other_below : (bound : Key) (f : Family) → IsSettledBelow net l.world.accepted bound f → (r : ℕ) → r < routers net → below bound (f r) ≡ below bound (dones l.world r)
     -- where the boundary is at the horizon, the committed rows are those that the lockstep trace shows, cut where it is cut
     pub rows : l.world.boundary ≡ horizon net.header l.world → l.rows ≡ shown_rows net l.world.accepted
     pub cut : l.world.boundary ≡ horizon net.header l.world → l.cut ≡ is_cut net l.world.accepted
