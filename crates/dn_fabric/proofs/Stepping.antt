@@ -5,7 +5,7 @@ use Rattle.std.specs.List.{AllByRecursion}
 use Rattle.dn_model.specs.declared.event.Event.{Event}
 use Rattle.dn_model.specs.Cases.{IsHeading}
 use Rattle.dn_model.specs.Network.{Network, routers}
-use Rattle.dn_model.specs.Settled.{row_limit}
+use Rattle.dn_model.specs.Settled.{IsPrefixOf, row_limit}
 use Rattle.dn_world.specs.declared.step.Step.{Step}
 use Rattle.dn_world.specs.declared.step.Step.TheVariants.{RollBack}
 use Rattle.dn_world.specs.World.{World, part, opening}
@@ -15,7 +15,7 @@ use Rattle.dn_world.proofs.Cases.{playable_from}
 use Rattle.dn_world.proofs.Balance.{IsCounted, counted, balanced, step_counted}
 use Rattle.dn_world.proofs.Past.{boundary_kept, horizon_rises, roll_back_past}
 use Rattle.dn_world.proofs.Onward.{legal_more, world_more}
-use Rattle.dn_world.proofs.Growth.{rows_grow, rows_stay}
+use Rattle.dn_world.proofs.Growth.{rows_grow, rows_stay, committed_grow, cut_stays}
 use Rattle.dn_fabric.specs.Fabrics.{Fabric, live_after, stepped, IsReached, HasStepped}
 use Rattle.dn_fabric.proofs.Cutting.{take_front_more, is_long_more}
 
@@ -39,6 +39,8 @@ module _ {S : Type 0} (net : Network S) where
           cut = refl;
         };
         onward = horizon_rises net timed f.live.world s h was.rises;
+        grown = subst (λ es. IsPrefixOf es (committed net (after net f.live.world s))) (sym r.rows) (committed_grow net f.live.world s h was r.past);
+        stays_cut = λ e. cut_stays net f.live.world s h was r.past (sym r.cut ∙ e);
       }
 
   -- what holds of a fabric holds whatever is leased

@@ -5,7 +5,7 @@ use Rattle.dn_model.specs.declared.event.Event.{Event}
 use Rattle.dn_model.specs.Cases.{Heading, timing_of}
 use Rattle.dn_model.specs.Links.{ends}
 use Rattle.dn_model.specs.Network.{Network, opening_node, routers}
-use Rattle.dn_model.specs.Settled.{below}
+use Rattle.dn_model.specs.Settled.{IsPrefixOf, below}
 use Rattle.dn_world.specs.declared.step.Step.{Step}
 use Rattle.dn_world.specs.World.{World, part, opening, horizon}
 use Rattle.dn_world.specs.Steps.{after}
@@ -69,11 +69,13 @@ module _ {S : Type 0} (net : Network S) where
     pub rows : f.live.rows ≡ committed net f.live.world
     pub cut : f.live.cut ≡ is_cut_off net f.live.world
 
-  -- one step was taken and is the last of the journal, and all of this holds again; the horizon hasn't fallen
+  -- one step was taken and is the last of the journal, and all of this holds again; the horizon hasn't fallen; no row was taken away, and what is cut stays cut
   pub record HasStepped (before : Fabric S) (s : Step) (now : Fabric S) : Type 0 where
     pub is : now ≡ stepped before s
     pub reached : IsReached now
     pub onward : IsPast (horizon net.header before.live.world) (horizon net.header now.live.world)
+    pub grown : IsPrefixOf before.live.rows now.live.rows
+    pub stays_cut : before.live.cut ≡ true → now.live.cut ≡ true
 
 -- no memory was found, in the middle of a call: nothing more is done, and the network is the one from before
 pub record HasHalted {S : Type 0} (before now : Live S) : Type 0 where
