@@ -7,6 +7,7 @@ pub mod Taken
 pub mod Opened
 pub mod Promised
 pub mod Working
+pub mod Conditions
 pub mod Arrivals
 pub mod Leasts
 pub mod Commits

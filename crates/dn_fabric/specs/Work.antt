@@ -1,12 +1,12 @@
 -- What there is to do in a world.
-use Rattle.std.specs.Prelude.{ℕ, suc, Bool, true, false, not, ◌&&◌, if◌then◌else◌, Option, Some, None, List, [], ◌∷◌, get_or}
+use Rattle.std.specs.Prelude.{◌≡◌, ℕ, suc, ◌<◌, Bool, true, false, not, ◌&&◌, if◌then◌else◌, Option, Some, None, List, [], ◌∷◌, get_or, length, slice_get}
 use Rattle.std.specs.Borrow.{Bor}
 use Rattle.std.specs.Ordering.{is_lt, is_gt}
 use Rattle.dn_model.specs.declared.event.Event.{Event}
 use Rattle.dn_model.specs.Cases.{Heading}
 use Rattle.dn_model.specs.Order.{key_cmp, event_cmp}
 use Rattle.dn_world.specs.declared.packet.Packet.{Packet}
-use Rattle.dn_world.specs.World.{Part, World, is_behind, is_ready, is_quiet, horizon}
+use Rattle.dn_world.specs.World.{Part, World, part, is_behind, is_ready, is_quiet, horizon}
 use Rattle.dn_fabric.specs.declared.work.Work.{Work}
 use Rattle.dn_fabric.specs.declared.work.Work.TheVariants as work
 use Rattle.dn_fabric.specs.Fabrics.{Fabric}
@@ -60,3 +60,55 @@ module _ {S : Type 0} (f : Fabric S) where
   -- the first that there is: a packet to deliver, a router to roll back, a router to let handle its least event, rows to commit; otherwise Ended in a quiet world, and Nothing in another
   unfoldable pub next_work : Work
   next_work = delivering f.live.world.flight
+
+-- ---- the conditions of each answer
+
+module _ {S : Type 0} (f : Fabric S) where
+  -- the router isn't behind, has an event to handle, and isn't leased
+  pub record IsFree (r : ℕ) : Type 0 where
+    pub inside : r < length f.live.header.routers
+    pub ready : is_ready (part f.live.world r) ≡ true
+    pub unleased : get_or f.leased r false ≡ false
+
+  -- the least event of r is no later than that of s, and earlier where s is the lesser number
+  abbrev pub IsNotLater : ℕ → ℕ → Type 0
+  IsNotLater r s =
+      (e x : Event) → slice_get (part f.live.world r).todo 0 ≡ Some e → slice_get (part f.live.world s).todo 0 ≡ Some x → (is_gt (event_cmp e x) ≡ false) × (s < r → is_lt (event_cmp e x) ≡ true)
+
+  -- no packet flies, and r is the first router that is behind
+  pub record IsFirstBehind (r : ℕ) : Type 0 where
+    pub flight : f.live.world.flight ≡ []
+    pub inside : r < length f.live.header.routers
+    pub behind : is_behind (part f.live.world r) ≡ true
+    pub first : (s : ℕ) → s < r → is_behind (part f.live.world s) ≡ false
+
+  -- no packet flies, and no router is behind
+  pub record IsStill : Type 0 where
+    pub flight : f.live.world.flight ≡ []
+    pub behind : (r : ℕ) → r < length f.live.header.routers → is_behind (part f.live.world r) ≡ false
+
+  -- and r is the free router whose least event is the least of all
+  pub record IsFirstFree (r : ℕ) : Type 0 where
+    pub still : IsStill
+    pub free : IsFree r
+    pub first : (s : ℕ) → IsFree s → IsNotLater r s
+
+  -- no packet flies, no router is behind, and none is free
+  pub record IsIdle : Type 0 where
+    pub still : IsStill
+    pub none : (r : ℕ) → IsFree r → ⊥
+
+  -- and the horizon isn't above the boundary: it stands there, while the fabric isn't stopped
+  pub record IsCommitted : Type 0 where
+    pub idle : IsIdle
+    pub below : can_commit f.live.header f.live.world ≡ false
+    pub at : f.live.stopped ≡ false → f.live.world.boundary ≡ horizon f.live.header f.live.world
+
+  -- the answer's condition
+  abbrev pub HasWork : Work → Type 0
+  HasWork (work.Deliver n) = (n ≡ 0) × (0 < length f.live.world.flight)
+  HasWork (work.RollBack r) = IsFirstBehind r
+  HasWork (work.Handle r) = IsFirstFree r
+  HasWork work.Commit = IsIdle × (can_commit f.live.header f.live.world ≡ true)
+  HasWork work.Ended = IsCommitted × (is_quiet f.live.world ≡ true)
+  HasWork work.Nothing = IsCommitted × (is_quiet f.live.world ≡ false)

@@ -2,7 +2,7 @@
 
 ghost use Rattle.std.specs.Prelude.{◌≡◌, ◌<◌, ◌≤◌, ◌&&◌, not, length, map, None, option_map};
 ghost use Rattle.dn_world.specs.World.{part, is_behind, is_ready, is_empty, are_quiet};
-ghost use Rattle.dn_fabric.specs.Work.{next_work, first_behind, least_ready, earlier_of, seen};
+ghost use Rattle.dn_fabric.specs.Work.{next_work, HasWork, first_behind, least_ready, earlier_of, seen};
 
 use crate::fabric::Fabric;
 use dn_guest::Guest;
@@ -47,8 +47,11 @@ impl<G: Guest> Fabric<G> {
     /// The first that there is to do: to deliver the first packet, to roll back the first router that is
     /// behind, to let that router handle its least event, of those that are ready and not leased, whose least
     /// event is the least of all, to commit. Ended where nothing is to be done ever again, otherwise Nothing.
+    /// Each answer comes where its condition holds (`HasWork`), and nowhere else.
     pub fn next_work(&self) -> Work
-        ensures { result ≡ next_work self.now }
+        ensures work { result ≡ next_work self.now }
+        ensures has { HasWork self.now result }
+        ensures only { (work : Work) → HasWork self.now work → work ≡ result }
     {
         if self.flying() > 0 {
             return Work::Deliver(0);
