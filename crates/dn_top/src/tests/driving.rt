@@ -2,7 +2,7 @@
 
 use super::{
     CONTEST_SEED_7, PORT_DOWN, SMALLEST, SMALLEST_TRACE, TWO_ROUTERS, TWO_ROUTERS_TRACE, joined,
-    ospf, plain_outcome, rip, words_of,
+    many_rows, ospf, plain_outcome, rip, words_of,
 };
 use crate::{Command, Schedule, command_of, status_line, status_number};
 use dn_guest::{Bytes, NoMemory};
@@ -152,6 +152,77 @@ fn a_short_schedule_writes_nothing(rt: HostRuntime) -> Result<(), Fail> {
         b"defined: open\n".as_slice()
     );
     assert!(rt; sink.as_slice().is_empty());
+    Ok(())
+}
+
+/// The feed that gives the case of `many_rows` one row more than a trace shows.
+const ONE_MORE: &[u8] = b"@7 a0 cmd 41\n";
+
+/// The steps by which the case of `many_rows` with the feed `ONE_MORE` handles all it has, group by group,
+/// commits, and then what `behind` has. They are 203,128 with none behind.
+fn all_steps(alloc: Global, behind: &[u8]) -> Result<Bytes, NoMemory> {
+    let mut text = Bytes::new(alloc);
+    text.append(b"journal\n")?;
+    for group in 0u32..3125 {
+        if group != 0 {
+            text.append(b"beacon\n")?;
+        }
+        if group == 7 {
+            text.append(b"inject @7 a0 cmd 41\nhandle a0\n")?;
+        }
+        for tens in [b"a", b"b", b"c", b"d", b"e", b"f", b"g", b"h"] {
+            for ones in [b"0", b"1", b"2", b"3", b"4", b"5", b"6", b"7"] {
+                text.append(b"handle ")?;
+                text.append(tens)?;
+                text.append(ones)?;
+                text.append(b"\n")?;
+            }
+        }
+    }
+    text.append(b"close\ncommit\n")?;
+    text.append(behind)?;
+    Ok(text)
+}
+
+#[test]
+fn a_commit_past_the_last_row_cuts(rt: HostRuntime) -> Result<(), Fail> {
+    let case = many_rows(rt.alloc(), ONE_MORE)?;
+    let (_, lockstep) = plain_outcome(rt.alloc(), &["lockstep"], case.as_slice())?;
+    for behind in [
+        &b"end journal 203128\n"[..],
+        // What stands behind the commit that cuts isn't taken, so that no step of it is illegal.
+        b"rollback a0\nend journal 203129\n",
+    ] {
+        let journal = all_steps(rt.alloc(), behind)?;
+        let input = joined(rt.alloc(), case.as_slice(), journal.as_slice())?;
+        let (status, sink) = plain_outcome(rt.alloc(), &["rerun"], input.as_slice())?;
+        assert_eq!(rt; status_number(&status), 4);
+        assert!(rt; sink.as_slice().ends_with(b"\ncut 200000\n"));
+        assert!(rt; sink.as_slice() == lockstep.as_slice());
+    }
+    let journal = all_steps(rt.alloc(), b"end journal 203127\n")?;
+    let input = joined(rt.alloc(), case.as_slice(), journal.as_slice())?;
+    let (status, sink) = plain_outcome(rt.alloc(), &["rerun"], input.as_slice())?;
+    assert_eq!(rt;
+        status_line(rt.alloc(), &status)?.as_slice(),
+        b"defined: line 203201: journal\n".as_slice()
+    );
+    assert!(rt; sink.as_slice().is_empty());
+    Ok(())
+}
+
+#[test]
+fn a_schedule_past_the_last_row_is_cut(rt: HostRuntime) -> Result<(), Fail> {
+    let case = many_rows(rt.alloc(), ONE_MORE)?;
+    let (_, lockstep) = plain_outcome(rt.alloc(), &["lockstep"], case.as_slice())?;
+    let words = ["shake", "3", "--steps", "1000000"];
+    let (status, sink) = plain_outcome(rt.alloc(), &words, case.as_slice())?;
+    assert_eq!(rt; status_number(&status), 4);
+    assert!(rt; sink.as_slice().len() > lockstep.as_slice().len());
+    assert!(rt; sink.as_slice().starts_with(lockstep.as_slice()));
+    let (again, copy) = plain_outcome(rt.alloc(), &["rerun"], sink.as_slice())?;
+    assert_eq!(rt; status_number(&again), 4);
+    assert!(rt; copy.as_slice() == lockstep.as_slice());
     Ok(())
 }
 
