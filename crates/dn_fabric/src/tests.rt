@@ -4,5 +4,6 @@ mod acts;
 mod leased;
 mod networks;
 mod seen;
+mod told;
 mod whole;
 mod worked;
