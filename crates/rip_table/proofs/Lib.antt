@@ -1,3 +1,4 @@
 pub mod NetworkLaws
 pub mod RouteLaws
+pub mod OwnLaws
 pub mod Equalities

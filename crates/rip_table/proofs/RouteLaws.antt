@@ -105,11 +105,11 @@ written n h v (e ∷ es) sorted found =
 
 -- ---- an entry of a response
 
-kept_none : (full : Bool) (port tag m now : ℕ) (held : Option Held) → route_after full port tag m now held ≡ None → held ≡ None
+pub kept_none : (full : Bool) (port tag m now : ℕ) (held : Option Held) → route_after full port tag m now held ≡ None → held ≡ None
 kept_none full port tag m now None e = refl
 kept_none full port tag m now (Some h) e = absurd (none-some (revised port tag m now h) (sym e))
 
-put_here : (routes : Routes) (n : Network) (route : Option Held) → (route ≡ None → held_at routes n ≡ None) → held_at (put routes n route) n ≡ route
+pub put_here : (routes : Routes) (n : Network) (route : Option Held) → (route ≡ None → held_at routes n ≡ None) → held_at (put routes n route) n ≡ route
 put_here routes n None none = none refl
 put_here routes n (Some h) none = held_here n h routes
 

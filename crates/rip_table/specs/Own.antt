@@ -26,6 +26,11 @@ with_own routes address len metric now =
 abbrev pub without_own : Routes → ℕ → ℕ → ℕ → Routes
 without_own routes address len now = put routes (address, len) (option_map (withdrawn now) (held_at routes (address, len)))
 
+-- 1 where an own network is held that can be reached, and 0 where none is
+abbrev pub own_at : Option Held → ℕ
+own_at None = 0
+own_at (Some h) = if is_current h then 1 else 0
+
 -- how many own networks can be reached
 abbrev pub own_count : Routes → ℕ
 own_count routes = length (filter is_current (values_of routes))

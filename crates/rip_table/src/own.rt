@@ -1,7 +1,7 @@
 //! The router's own networks.
 
-ghost use Rattle.std.specs.Prelude.{◌≡◌, ◌≤◌, length, OnOk, OnErr, option_map};
-ghost use Rattle.rip_table.specs.Own.{connected, withdrawn};
+ghost use Rattle.std.specs.Prelude.{◌≡◌, ◌+◌, ◌≤◌, length, OnOk, OnErr, option_map};
+ghost use Rattle.rip_table.specs.Own.{connected, own_at, own_count, withdrawn};
 ghost use Rattle.rip_table.specs.Routes.{held_at, is_full, put};
 
 use crate::Held;
@@ -36,6 +36,8 @@ pub fn connect(
     ensures ok { OnOk result (routes.new.entries ≡ put routes.old.entries network
         (connected (is_full routes.old.entries) metric now (held_at routes.old.entries network))) }
     ensures few { length routes.old.entries ≤ 65535 → length routes.new.entries ≤ 65535 }
+    ensures own { OnOk result (own_count routes.new.entries + own_at (held_at routes.old.entries network)
+        ≡ own_count routes.old.entries + own_at (held_at routes.new.entries network)) }
     ensures err { OnErr result (routes.new.entries ≡ routes.old.entries) }
 {
     let held = routes.get(&network).copied();
@@ -47,6 +49,8 @@ pub fn connect(
 pub fn withdraw(routes: &mut Routes, network: (u32, u8), now: u32)
     ensures routes { routes.new.entries ≡ put routes.old.entries network (option_map (withdrawn now) (held_at routes.old.entries network)) }
     ensures len { length routes.new.entries ≡ length routes.old.entries }
+    ensures own { own_count routes.new.entries + own_at (held_at routes.old.entries network)
+        ≡ own_count routes.old.entries + own_at (held_at routes.new.entries network) }
 {
     if let Some(held) = routes.get_mut(&network) {
         *held = held.withdrawn(now);

@@ -1,6 +1,7 @@
 //! What an entry of a response does to the table (RFC 2453 section 3.9.2).
 
 ghost use Rattle.std.specs.Prelude.{◌≡◌, ◌≤◌, length, OnOk, OnErr};
+ghost use Rattle.rip_table.specs.Own.{own_count};
 ghost use Rattle.rip_table.specs.Response.{metric_by, revised, route_after};
 ghost use Rattle.rip_table.specs.Routes.{held_at, is_full, put};
 
@@ -72,6 +73,7 @@ pub fn hear(
     ensures ok { OnOk result (routes.new.entries ≡ put routes.old.entries network
         (route_after (is_full routes.old.entries) port entry.now.tag (metric_by cost entry.now) now (held_at routes.old.entries network))) }
     ensures few { length routes.old.entries ≤ 65535 → length routes.new.entries ≤ 65535 }
+    ensures own { OnOk result (own_count routes.new.entries ≡ own_count routes.old.entries) }
     ensures err { OnErr result (routes.new.entries ≡ routes.old.entries) }
 {
     let held = routes.get(&network).copied();

@@ -5,7 +5,7 @@ ghost use Rattle.std.specs.Map.{keys_of};
 ghost use Rattle.std.specs.List.Sorted.{IsStrictlySortedBy};
 ghost use Rattle.rip_table.specs.Held.{settled};
 ghost use Rattle.rip_table.specs.Networks.{Network, told_network};
-ghost use Rattle.rip_table.specs.Own.{own_count, with_own, without_own};
+ghost use Rattle.rip_table.specs.Own.{own_at, own_count, with_own, without_own};
 ghost use Rattle.rip_table.specs.Reply.{entries_of};
 ghost use Rattle.rip_table.specs.Response.{metric_by, route_after, told};
 ghost use Rattle.rip_table.specs.Routes.{all_changed, any_changed, held_at, is_full, network_cmp, put};
@@ -35,17 +35,20 @@ pub type Routes = BTreeMap<(u32, u8), Held>;
 pub struct Table {
     alloc: Global,
     routes: Routes,
+    /// How many networks of the router's own can be reached.
+    own: u64,
 }
 
 impl Model for Table {
-    ghost use Rattle.std.specs.Prelude.{List, ℕ, ◌≤◌, length};
+    ghost use Rattle.std.specs.Prelude.{List, ℕ, ◌≡◌, ◌≤◌, length};
     ghost use Rattle.rip_table.specs.declared.held.Held.{Held};
+    ghost use Rattle.rip_table.specs.Own.{own_count};
 
     ghost Value = { List ((ℕ × ℕ) × Held) };
 
     ghost view = { λ t. t.routes.entries };
 
-    ghost invariant = { λ t. length t.routes.entries ≤ 65535 };
+    ghost invariant = { λ t. (length t.routes.entries ≤ 65535) × (t.own ≡ own_count t.routes.entries) };
 }
 
 impl Table {
@@ -56,6 +59,7 @@ impl Table {
         Table {
             alloc,
             routes: BTreeMap::new(alloc),
+            own: 0,
         }
     }
 
@@ -97,11 +101,11 @@ impl Table {
         all_entries(self.alloc, &self.routes)
     }
 
-    /// How many networks of the router's own can be reached. It takes no memory.
+    /// How many networks of the router's own can be reached.
     pub fn own_count(&self) -> u64
         ensures { result ≡ own_count self.now }
     {
-        own_count(&self.routes)
+        self.own
     }
 
     /// An equal table.
@@ -111,6 +115,7 @@ impl Table {
         Ok(Table {
             alloc,
             routes: self.routes.clone()?,
+            own: self.own,
         })
     }
 
@@ -150,7 +155,11 @@ impl Table {
         ensures ok { OnOk result (self.new ≡ with_own self.old address len metric now) }
         ensures err { OnErr result (self.new ≡ self.old) }
     {
-        connect(&mut self.routes, (address, len), metric, now)
+        let network = (address, len);
+        let before = own_at(&self.routes, network);
+        connect(&mut self.routes, network, metric, now)?;
+        self.own = self.own - before + own_at(&self.routes, network);
+        Ok(())
     }
 
     /// Begins the deletion of a network of the router's own. Nothing happens where it isn't own, can't be
@@ -158,7 +167,10 @@ impl Table {
     pub fn lose(&mut self, address: u32, len: u8, now: u32)
         ensures { self.new ≡ without_own self.old address len now }
     {
-        withdraw(&mut self.routes, (address, len), now);
+        let network = (address, len);
+        let before = own_at(&self.routes, network);
+        withdraw(&mut self.routes, network, now);
+        self.own = self.own - before + own_at(&self.routes, network);
     }
 
     /// Begins the deletion of each route by this port that can be reached.
@@ -204,7 +216,8 @@ impl Table {
 
 /// Whether there are so many routes that none is added.
 pub fn is_full(routes: &Routes) -> bool
-    ensures { result ≡ is_full routes.now.entries }
+    ensures full { result ≡ is_full routes.now.entries }
+    ensures ascending { IsStrictlySortedBy network_cmp (keys_of routes.now.entries) }
 {
     MOST_ROUTES <= routes.len()
 }
@@ -242,11 +255,17 @@ fn all_entries(alloc: Global, routes: &Routes) -> Result<Vec<((u32, u8), Held)>,
     Ok(entries)
 }
 
-/// How many networks of the router's own can be reached.
-fn own_count(routes: &Routes) -> u64
-    ensures { result ≡ own_count routes.now.entries }
+/// 1 where a network of the router's own is held that can be reached, and 0 where none is.
+#[tactic(auto, using(crate::proofs::OwnLaws::own_few))]
+fn own_at(routes: &Routes, network: (u32, u8)) -> u64
+    ensures number { result ≡ own_at (held_at routes.now.entries network) }
+    ensures among { result ≤ own_count routes.now.entries }
+    ensures few { own_count routes.now.entries ≤ length routes.now.entries }
 {
-    routes.values().filter(|held| held.is_current()).count() as u64
+    match routes.get(&network) {
+        Some(held) if held.is_current() => 1,
+        _ => 0,
+    }
 }
 
 /// Whether some route is marked as changed.
@@ -258,7 +277,8 @@ fn any_changed(routes: &Routes) -> bool
 
 /// Takes the mark of a change from each route.
 fn settle_all(routes: &mut Routes)
-    ensures { routes.new.entries ≡ all_changed settled routes.old.entries }
+    ensures settled { routes.new.entries ≡ all_changed settled routes.old.entries }
+    ensures own { own_count routes.new.entries ≡ own_count routes.old.entries }
 {
     routes.retain(|_network, held| {
         held.settle();

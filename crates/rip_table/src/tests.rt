@@ -253,6 +253,41 @@ fn a_route_times_out_and_is_removed_at_its_bounds(rt: HostRuntime) -> Result<(),
     Ok(())
 }
 
+/// How many networks of the router's own can be reached, by a look at each route.
+fn counted(table: &Table) -> Result<u64, NoMemory> {
+    let mut count = 0u64;
+    for (_network, held) in table.entries()? {
+        if held.is_current() {
+            count = count.wrapping_add(1);
+        }
+    }
+    Ok(count)
+}
+
+#[test]
+fn own_networks_are_counted_as_they_come_and_go(rt: HostRuntime) -> Result<(), Fail> {
+    let mut table = holding(rt.alloc(), BY_PORT)?;
+    let mut counts = Vec::new(rt.alloc());
+    for step in 0..8u32 {
+        match step {
+            // A new one, one at 16, and one in the place of a route by a port.
+            0 => table.connect(0, 0, 1, 60)?,
+            1 => table.connect(0, 1, 16, 60)?,
+            2 => table.connect(ADDRESS, 16, 3, 60)?,
+            // Set anew, set to 16, lost, told by a port after that, and lost again.
+            3 => table.connect(0, 0, 2, 61)?,
+            4 => table.connect(0, 0, 16, 61)?,
+            5 => table.lose(ADDRESS, 16, 62),
+            6 => table.response(1, 1, &entry(1), 63)?,
+            _ => table.lose(ADDRESS, 16, 64),
+        }
+        assert_eq!(rt; table.own_count(), counted(&table)?);
+        counts.push(table.own_count())?;
+    }
+    assert_eq!(rt; counts.as_slice(), [1, 1, 2, 2, 1, 0, 0, 0].as_slice());
+    Ok(())
+}
+
 #[test]
 fn own_networks_come_and_go(rt: HostRuntime) -> Result<(), Fail> {
     let mut table = holding(rt.alloc(), OWN)?;

@@ -5,7 +5,8 @@ use Rattle.std.specs.BTreeMap.{is_at}
 use Rattle.std.proofs.lemmas.Map.{length-set_value}
 use Rattle.rip_table.specs.declared.held.Held.{Held}
 use Rattle.rip_table.specs.Own.{withdrawn}
-use Rattle.rip_table.specs.Routes.{Routes, network_cmp, put}
+use Rattle.rip_table.specs.Routes.{Routes, held_at, network_cmp, put}
+use Rattle.rip_table.proofs.OwnLaws.{own_after}
 use Rattle.rip_table.proofs.RouteLaws.{written}
 use Rattle.rip_table.proofs.own.withdraw.Goals as goal
 
@@ -24,3 +25,8 @@ pub returns-in-Some-clause-len : goal.returns-in-Some-clause-len
 returns-in-Some-clause-len c =
     let routes = c.args.routes.now.entries in
     ap (λ (es : Routes). length es) (c.get_mut.follows.holds c.withdrawn.result).0 ∙ length-set_value (is_at (network_cmp c.args.network)) routes c.withdrawn.result
+
+pub returns-in-Some-clause-own : goal.returns-in-Some-clause-own
+returns-in-Some-clause-own c =
+    let routes = c.args.routes.now.entries in
+    own_after c.args.network (option_map (withdrawn c.args.now) (held_at routes c.args.network)) routes _ c.get_mut.ensures.ordered (returns-in-Some-clause-routes c)
