@@ -1,5 +1,5 @@
 -- One step of a run.
-use Rattle.std.specs.Prelude.{◌≡◌, ℕ, ◌<◌, ◌≤◌, Bool, false, Some, List, ◌∷◌, ◌++◌, length, slice_get, slice_set}
+use Rattle.std.specs.Prelude.{◌≡◌, ◌↔◌, ℕ, ◌<◌, ◌≤◌, Bool, false, Option, Some, None, List, ◌∷◌, ◌++◌, length, slice_get, slice_set}
 use Rattle.std.specs.List.{AllByRecursion}
 use Rattle.std.specs.List.Sorted.{IsPermutation}
 use Rattle.dn_guest.specs.declared.node.Node.{Node}
@@ -29,11 +29,13 @@ pub record IsHandled {S : Type 0} (guests : Meaning S) (header : Heading) (nodes
   pub added : IsPermutation (rest ++ emitted header e (node_sent guests node e.input)) waiting_after
 
 -- what holds of an engine's parts in every state
-pub record IsSound {S : Type 0} (header : Heading) (wiring : List (List End)) (nodes : List (Node S)) (plan : Plan) (place : ℕ) (spent : Bool) : Type 0 where
+pub record IsSound {S : Type 0} (header : Heading) (wiring : List (List End)) (nodes : List (Node S)) (plan : Plan) (place : ℕ) (last : Option Event) (spent : Bool) : Type 0 where
   pub rules : IsHeading header
   pub wired : wiring ≡ all_ends header.links (length header.routers)
   pub one_each : length nodes ≡ length header.routers
   pub within : place ≤ row_limit
+  -- there is no last row exactly where none was handled
+  pub last_at : (last ≡ None) ↔ (place ≡ 0)
   pub inside : spent ≡ false → AreInside (length header.routers) (waiting_in plan)
   pub fronted : spent ≡ false → IsFronted plan
 

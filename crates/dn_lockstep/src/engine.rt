@@ -1,6 +1,6 @@
 //! The engine.
 
-ghost use Rattle.std.specs.Prelude.{◌≡◌, ◌+◌, ◌<◌, ◌≤◌, ◌++◌, ℕ, List, Some, true, length, slice_get, IfOk, IfErr, OnErr, IsErr, option_copied};
+ghost use Rattle.std.specs.Prelude.{◌≡◌, ◌↔◌, ◌+◌, ◌<◌, ◌≤◌, ◌++◌, ℕ, List, Some, None, true, length, slice_get, IfOk, IfErr, OnErr, IsErr, option_copied};
 ghost use Rattle.std.specs.List.Sorted.{IsPermutation, IsSorted};
 ghost use Rattle.dn_model.specs.declared.feed.External.{External};
 ghost use Rattle.dn_model.specs.Order.{event_cmp};
@@ -51,7 +51,7 @@ impl<G: Guest> Model for Engine<G> {
 
     ghost view = { λ e. record { header = e.header; nodes = e.nodes.items; waiting = waiting_in e.agenda; place = e.place; last = e.last; spent = e.spent } };
 
-    ghost invariant = { λ e. IsSound e.header e.wiring e.nodes.items e.agenda e.place e.spent };
+    ghost invariant = { λ e. IsSound e.header e.wiring e.nodes.items e.agenda e.place e.last e.spent };
 }
 
 impl<G: Guest> Engine<G> {
@@ -78,7 +78,7 @@ impl<G: Guest> Engine<G> {
     }
 
     /// Handles the next row, unless there is none or the row limit is reached. After `NoMemory` the
-    /// engine is spent.
+    /// engine is spent; its place and last row stay.
     pub fn next(&mut self, alloc: Global) -> Result<Next, NoMemory>
         ensures answer { (net : Network G) (feed : List External) → net.guests ≡ G.meaning → StandsIn net feed self.old → IfOk result (λ answer. answer ≡ answer_after self.old.place (rows net feed)) }
         ensures moved { (net : Network G) (feed : List External) → net.guests ≡ G.meaning → StandsIn net feed self.old → IfOk result (λ answer. HasMoved net feed self.old answer self.new) }
@@ -86,6 +86,7 @@ impl<G: Guest> Engine<G> {
         ensures stays_spent { self.old.spent ≡ true → IsErr result }
         ensures onward { IfOk result (λ answer. answer ≡ Next.Row → (self.old.place < row_limit) × (self.new.place ≡ self.old.place + 1)) }
         ensures header { self.new.header ≡ self.old.header }
+        ensures kept { OnErr result ((self.new.place ≡ self.old.place) × (self.new.last ≡ self.old.last)) }
     {
         if self.spent {
             return Err(AllocError);
@@ -117,7 +118,8 @@ impl<G: Guest> Engine<G> {
 
     /// The row handled last. None exactly at place 0.
     pub fn last(&self) -> Option<&Row>
-        ensures { option_copied result ≡ self.now.last }
+        ensures row { option_copied result ≡ self.now.last }
+        ensures none { (result ≡ None) ↔ (self.now.place ≡ 0) }
     {
         self.last.as_ref()
     }

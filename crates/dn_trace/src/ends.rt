@@ -1,6 +1,7 @@
 //! How a trace ends: the states and the number of rows, or the line that says that it is cut.
 
 ghost use Rattle.std.specs.Prelude.{◌≡◌, ◌<◌, ◌≤◌, ◌++◌, List, length, OnOk};
+ghost use Rattle.dn_guest.specs.KeepsFront.{KeepsFront};
 ghost use Rattle.dn_model.specs.declared.feed.External.{External};
 ghost use Rattle.dn_model.specs.Network.{Network};
 ghost use Rattle.dn_lockstep.specs.Running.{IsAtEnd};
@@ -50,7 +51,8 @@ fn push_states<G: Guest>(
 /// Appends the line `end trace N`, which ends the trace of a run of so many rows behind the states.
 #[tactic(auto, unfolding(crate::specs::Trace::end_line, crate::specs::Rows::last_field))]
 pub fn push_end_line(rows: u64, out: &mut Bytes) -> Result<(), NoMemory>
-    ensures { OnOk result (out.new ≡ out.old ++ end_line rows) }
+    ensures ok { OnOk result (out.new ≡ out.old ++ end_line rows) }
+    ensures kept { KeepsFront out.old out.new }
 {
     out.append(b"end trace ")?;
     push_decimal(out, rows)?;
@@ -61,7 +63,8 @@ pub fn push_end_line(rows: u64, out: &mut Bytes) -> Result<(), NoMemory>
 /// Appends the line `cut 200000`, which ends the trace of a run of more rows.
 #[tactic(auto, unfolding(crate::specs::Trace::cut_line, crate::specs::Rows::last_field, dn_model::specs::Settled::row_limit))]
 pub fn push_cut_line(out: &mut Bytes) -> Result<(), NoMemory>
-    ensures { OnOk result (out.new ≡ out.old ++ cut_line) }
+    ensures ok { OnOk result (out.new ≡ out.old ++ cut_line) }
+    ensures kept { KeepsFront out.old out.new }
 {
     out.append(b"cut ")?;
     push_decimal(out, 200_000)?;

@@ -12,7 +12,7 @@ returns g c =
     let lines : node_lines g.G.Guest.meaning c.args.routers.now e.nodes (length c.args.routers.now) ++ end_line e.place ≡ last_lines net feed =
     rw (← guests, ← routers_are) (last_lines_are net feed e end) in
     let states = node_lines g.G.Guest.meaning c.args.routers.now e.nodes (length c.args.routers.now) in
-    c.in_ok-push_end_line.ensures
+    c.in_ok-push_end_line.ensures.ok
     ∙ ap (λ (l : List ℕ). l ++ end_line c.args.rows) c.in_ok-push_states.ensures
     ∙ append_assoc c.args.out.now states (end_line c.args.rows)
     ∙ ap (λ (n : ℕ). c.args.out.now ++ (states ++ end_line n)) c.requires.rows

@@ -1,4 +1,4 @@
-use Rattle.std.proofs.Common.{◌≡◌, false, None, List, ◌++◌, length, sym, ap, ◌∙◌, subst, arith}
+use Rattle.std.proofs.Common.{◌≡◌, false, None, List, ◌++◌, length, refl, sym, ap, ◌∙◌, subst, arith}
 use Rattle.std.specs.List.Sorted.{IsPermutation}
 use Rattle.dn_model.specs.declared.feed.External.{External}
 use Rattle.dn_model.specs.Cases.{Heading, Recording, IsHeading}
@@ -23,6 +23,7 @@ invariant_of-result g c =
       wired = c.in_ok-wiring.ensures;
       one_each = count ∙ guests;
       within = omega arith;
+      last_at = (λ none. refl, λ start. refl);
       inside = λ unspent.
           subst (λ (h : Heading). AreInside (length h.routers) (waiting_in c.in_ok-agenda.agenda)) (sym header)
           (inside_at_start (record { header = c.case.inside.header; feed = c.case.inside.feed }) c.case.invariant (waiting_in c.in_ok-agenda.agenda) whole);

@@ -49,6 +49,7 @@ invariant_of-self g c =
       wired = c.self.invariant.wired;
       one_each = omega (arith, count, old_len, c.handle_least.auto.nodes, c.self.invariant.one_each);
       within = omega (arith, c.self.invariant.within, c.row_limit.ensures, c.if-self-row_limit.false);
+      last_at = (λ none. absurd (cc), λ start. absurd (omega (arith, start)));
       inside = λ unspent.
           handled_inside g.G.Guest.meaning c.self.inside.header c.as_mut_slice.result.now c.self.invariant.rules (waiting_in c.self.inside.agenda) (waiting_in c.handle_least.new.agenda) c.in-Ok.event new (c.self.invariant.inside unspent) c.in-Ok.ensures.handled;
       fronted = λ unspent. c.in-Ok.ensures.fronted;

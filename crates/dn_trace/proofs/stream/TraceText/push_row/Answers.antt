@@ -55,7 +55,7 @@ returns-in_ok-push_cut_line-in-Cut-clause-text g c =
     let at = cut_answer old.place (rows net feed) answer in
     let cut = cut_text net feed old stands at.0 at.1 in
     let out = c.args.out.now in
-    append-nil c.push_cut_line.new.out ∙ c.in_ok-push_cut_line-in-Cut.ensures ∙ ap (λ (l : List ℕ). out ++ l) (sym cut.1)
+    append-nil c.push_cut_line.new.out ∙ c.in_ok-push_cut_line-in-Cut.ensures.ok ∙ ap (λ (l : List ℕ). out ++ l) (sym cut.1)
 
 pub returns-in_ok-push_cut_line-in-Cut-clause-ending : goal.returns-in_ok-push_cut_line-in-Cut-clause-ending
 returns-in_ok-push_cut_line-in-Cut-clause-ending g c =
