@@ -10,6 +10,7 @@ pub mod Sound
 pub mod Finishing
 pub mod Judging
 pub mod OneCase
+pub mod ReadLines
 pub mod Fields
 pub mod Spelled
 pub mod RoundTrip

@@ -5,7 +5,7 @@ ghost use Rattle.dn_model.specs.declared.feed.External.{External};
 ghost use Rattle.dn_model.specs.Cases.{Heading, IsHeading, Recording, IsRecording};
 ghost use Rattle.dn_case.specs.declared.cause.Cause.{Cause};
 ghost use Rattle.dn_case.specs.Shapes.{Line, line_of};
-ghost use Rattle.dn_case.specs.Spelling.{IsSpellable, spelled, lines_of, case_text};
+ghost use Rattle.dn_case.specs.Spelling.{IsSpellable, IsWithin, spelled, lines_of, case_text};
 ghost use Rattle.dn_case.specs.Externals.{IsExternalLine};
 ghost use Rattle.dn_case.specs.Reading.{IsCaseText, IsCaseFront, IsFirstBad};
 
@@ -22,6 +22,12 @@ pub fn a_text_has_one_first_bad_line()
 /// A line that is spelled is read as that line.
 pub fn a_spelled_line_is_read()
     ensures { (l : Line) → IsSpellable l → line_of (spelled l) ≡ Some l }
+{}
+
+/// A line that is read is the spelling of what it says, and that has a spelling. A number beyond 64 bits
+/// has none of its own: many digits say it.
+pub fn a_read_line_is_spelled()
+    ensures { (text : List ℕ) (l : Line) → line_of text ≡ Some l → IsWithin l → (text ≡ spelled l) × IsSpellable l }
 {}
 
 /// The text of a case is read as that case, whatever follows it.
