@@ -19,3 +19,4 @@ pub mod PrefixLeads
 pub mod CaseAgain
 pub mod Fronts
 pub mod TraceSectionLaws
+pub mod OneSpelling
