@@ -29,212 +29,35 @@ use Rattle.dn_case.specs.declared.cause.Cause.TheVariants as cause
 use Rattle.dn_case.specs.declared.place.Place.TheVariants as place
 use Rattle.dn_case.specs.Shapes.{line, Ask, Cmd, Down, Up, Line, Version, Period, Groups, Seed, Router, Link, Prefix, Feed, External, End, ◌>>=◌, is_word, name_of, kind_of, net_of, one_field, two_fields, three_fields, four_fields, five_fields, group_of, ask_of, line_of_fields, before_newline, line_of}
 use Rattle.dn_case.specs.Standings.{below, value, is_known, ask_fits, number_at, input_of, last_group, first_of, table, after, taken}
-use Rattle.dn_case.specs.Spelling.{digits, IsSmall, fields_of, spelled, asked_by, external_line}
+use Rattle.dn_case.specs.Spelling.{IsSmall, IsWithin, spelled, asked_by, external_line}
 use Rattle.dn_case.specs.Takings.{with_external}
 use Rattle.dn_case.specs.Reading.{case_of}
 use Rattle.dn_case.specs.Externals.{IsExternalLine}
+use Rattle.dn_case.proofs.ReadLines.{with_newline, read_spelled}
 use Rattle.dn_case.proofs.RouterLaws.{numbered}
 use Rattle.dn_case.proofs.RoundTrip.{ports_few, read_again, external_free, external_is, external_spellable}
 use Rattle.dn_case.proofs.Sound.{new_external}
 use Rattle.dn_case.proofs.Spelled.{spelled_again}
 use Rattle.dn_case.proofs.Taken.{free_of, free_test, held, both, known_is, well, IsWell, less, in_range}
 
--- ---- fields
+-- ---- the line
 
-word_is : (text word : List ℕ) → is_word text word ≡ true → text ≡ word
-word_is text word e = (bytes_decides text word).0 e
+pub newline_is : (text line : List ℕ) → before_newline text ≡ Some line → text ≡ line ++ 10 ∷ []
+newline_is text line e = with_newline text line e
 
-abbrev IsSmallAsk : Ask → Type 0
+abbrev pub IsSmallAsk : Ask → Type 0
 IsSmallAsk (Cmd hex) = Unit {0}
 IsSmallAsk (Down port) = IsSmall port
 IsSmallAsk (Up port) = IsSmall port
 
--- the fields are those of an external's line, where the line is one
-abbrev Says : List (List ℕ) → Line → Type 0
-Says fields (External group name a) = IsSmall group → IsSmallAsk a → fields ≡ fields_of (External group name a)
-Says fields _ = Unit {0}
-
-says_as : (fields : List (List ℕ)) (k l : Line) → Says fields k → Some k ≡ Some l → Says fields l
-says_as fields k l h e = let same : k ≡ l = cc in subst (λ (x : Line). Says fields x) same h
-
-bind : {A : Type 0} (o : Option A) (f : A → Option Line) (l : Line) → (o >>= f) ≡ Some l → (a : A) × (o ≡ Some a) × (f a ≡ Some l)
-bind None f l e = absurd cc
-bind (Some a) f l e = (a, refl, e)
-
-chosen : (b : Bool) (x y : Option Line) (l : Line) → cond b x y ≡ Some l → ((b ≡ true) × (x ≡ Some l)) ⊎ (y ≡ Some l)
-chosen true x y l e = inl (refl, e)
-chosen false x y l e = inr e
-
-no_line : {A : Type 0} (l : Line) → None ≡ Some l → A
-no_line l e = absurd cc
-
-number_is : (field : List ℕ) (n : Number) → numeral_of field ≡ Some n → IsSmall n → field ≡ digits n
-number_is field (Is n) e small = text_is field n (ap within e)
-number_is field Beyond e small = absurd small
-
-says_number : (fields : List (List ℕ)) (f : Number → Line) → ((n : Number) → Says fields (f n)) → (o : Option Number) (l : Line) → option_map f o ≡ Some l → Says fields l
-says_number fields f h None l e = no_line l e
-says_number fields f h (Some n) l e = says_as fields (f n) l (h n) e
-
-says_one : (word : List ℕ) (l : Line) → one_field word ≡ Some l → Says (word ∷ []) l
-unfolding one_field
-says_one word l e =
-    elim (chosen (is_word word (codes "feed")) _ _ l e) [
-      | inl h ↦ says_as _ Feed l tt h.1
-      | inr e ↦ elim (chosen (is_word word (codes "end")) _ _ l e) [ inl h ↦ says_as _ End l tt h.1 | inr e ↦ no_line l e ]
-    ]
-
-says_two : (word field : List ℕ) (l : Line) → two_fields word field ≡ Some l → Says (word ∷ field ∷ []) l
-unfolding two_fields
-says_two word field l e =
-    elim (chosen (is_word word (codes "defined")) _ _ l e) [
-      | inl h ↦ says_number _ Version (λ n. tt) (numeral_of field) l h.1
-      | inr e ↦ elim (chosen (is_word word (codes "period")) _ _ l e) [
-        | inl h ↦ says_number _ Period (λ n. tt) (numeral_of field) l h.1
-        | inr e ↦ elim (chosen (is_word word (codes "groups")) _ _ l e) [
-          | inl h ↦ says_number _ Groups (λ n. tt) (numeral_of field) l h.1
-          | inr e ↦ elim (chosen (is_word word (codes "seed")) _ _ l e) [ inl h ↦ says_number _ Seed (λ n. tt) (numeral_of field) l h.1 | inr e ↦ no_line l e ]
-        ]
-      ]
-    ]
-
-says_three : (word a b : List ℕ) (l : Line) → three_fields word a b ≡ Some l → Says (word ∷ a ∷ b ∷ []) l
-unfolding three_fields
-says_three word a b l e =
-    elim (chosen (is_word word (codes "router")) _ _ l e) [
-      | inl h ↦ (
-          let n = bind (name_of a) _ l h.1 in
-          let k = bind (kind_of b) _ l n.2 in
-          says_as _ (Router n.0 k.0) l tt k.2)
-      | inr e ↦ no_line l e
-    ]
-
--- @GROUP
-group_is : (word : List ℕ) (group : Number) → group_of word ≡ Some group → IsSmall group → word ≡ 64 ∷ digits group
-group_is [] group e small = absurd cc
-group_is (c ∷ text) group e small =
-    elim (eqb c 64) as (λ b. eqb c 64 ≡ b → cond b (numeral_of text) None ≡ Some group → c ∷ text ≡ 64 ∷ digits group) [
-      | true ↦ λ is e. ap (λ (x : ℕ). x ∷ text) (eqb-true c 64 is) ∙ ap (λ (x : List ℕ). 64 ∷ x) (number_is text group e small)
-      | false ↦ λ _ e. absurd cc
-    ] refl e
-
-name_is : (text name : List ℕ) → name_of text ≡ Some name → text ≡ name
-name_is text name e =
-    elim (is_name text) as (λ b. cond b (Some text) None ≡ Some name → text ≡ name) [
-      | true ↦ λ e. cc
-      | false ↦ λ e. absurd cc
-    ] e
-
--- the two fields of what is asked
-abbrev AsksBy : List ℕ → List ℕ → Ask → Type 0
-AsksBy third fourth (Cmd hex) = (third ≡ codes "cmd") × (fourth ≡ hex)
-AsksBy third fourth (Down port) = (third ≡ codes "down") × (IsSmall port → fourth ≡ digits port)
-AsksBy third fourth (Up port) = (third ≡ codes "up") × (IsSmall port → fourth ≡ digits port)
-
-asks_as : (third fourth : List ℕ) (a b : Ask) → AsksBy third fourth a → Some a ≡ Some b → AsksBy third fourth b
-asks_as third fourth a b h e = let same : a ≡ b = cc in subst (λ (x : Ask). AsksBy third fourth x) same h
-
-asks_number : (third fourth : List ℕ) (f : Number → Ask) (o : Option Number) (a : Ask) → ((n : Number) → o ≡ Some n → AsksBy third fourth (f n)) → option_map f o ≡ Some a → AsksBy third fourth a
-asks_number third fourth f None a h e = absurd cc
-asks_number third fourth f (Some n) a h e = asks_as third fourth (f n) a (h n refl) e
-
-asks_hex : (third fourth : List ℕ) (a : Ask) (b : Bool) → third ≡ codes "cmd" → cond b (Some (Cmd fourth)) None ≡ Some a → AsksBy third fourth a
-asks_hex third fourth a true is e = asks_as third fourth (Cmd fourth) a (is, refl) e
-asks_hex third fourth a false is e = absurd cc
-
-asks_up : (third fourth : List ℕ) (a : Ask) → cond (is_word third (codes "up")) (option_map Up (numeral_of fourth)) None ≡ Some a → AsksBy third fourth a
-asks_up third fourth a e =
-    elim (is_word third (codes "up")) as (λ b. is_word third (codes "up") ≡ b → cond b (option_map Up (numeral_of fourth)) None ≡ Some a → AsksBy third fourth a) [
-      | true ↦ λ up e. asks_number third fourth Up (numeral_of fourth) a (λ n is. (word_is third _ up, number_is fourth n is)) e
-      | false ↦ λ _ e. absurd cc
-    ] refl e
-
-asks_down : (third fourth : List ℕ) (a : Ask) → cond (is_word third (codes "down")) (option_map Down (numeral_of fourth)) (cond (is_word third (codes "up")) (option_map Up (numeral_of fourth)) None) ≡ Some a → AsksBy third fourth a
-asks_down third fourth a e =
-    elim (is_word third (codes "down")) as (λ b. is_word third (codes "down") ≡ b → cond b (option_map Down (numeral_of fourth)) (cond (is_word third (codes "up")) (option_map Up (numeral_of fourth)) None) ≡ Some a → AsksBy third fourth a) [
-      | true ↦ λ down e. asks_number third fourth Down (numeral_of fourth) a (λ n is. (word_is third _ down, number_is fourth n is)) e
-      | false ↦ λ _ e. asks_up third fourth a e
-    ] refl e
-
-asks : (third fourth : List ℕ) (a : Ask) → ask_of third fourth ≡ Some a → AsksBy third fourth a
-unfolding ask_of
-asks third fourth a e =
-    elim (is_word third (codes "cmd")) as (λ b. is_word third (codes "cmd") ≡ b → cond b (cond (is_hex fourth) (Some (Cmd fourth)) None) (cond (is_word third (codes "down")) (option_map Down (numeral_of fourth)) (cond (is_word third (codes "up")) (option_map Up (numeral_of fourth)) None)) ≡ Some a → AsksBy third fourth a) [
-      | true ↦ λ cmd e. asks_hex third fourth a (is_hex fourth) (word_is third _ cmd) e
-      | false ↦ λ _ e. asks_down third fourth a e
-    ] refl e
-
-four_same : (a b c d e f g h : List ℕ) → a ≡ e → b ≡ f → c ≡ g → d ≡ h → a ∷ b ∷ c ∷ d ∷ [] ≡ e ∷ f ∷ g ∷ h ∷ []
-four_same a b c d e f g h i j k l = rw (i, j, k, l) refl
-
-says_external : (word name third fourth : List ℕ) (group : Number) (n : List ℕ) (a : Ask) → (IsSmall group → word ≡ 64 ∷ digits group) → name ≡ n → AsksBy third fourth a → Says (word ∷ name ∷ third ∷ fourth ∷ []) (External group n a)
-says_external word name third fourth group n (Cmd hex) g e h = λ small _. four_same _ _ _ _ _ _ _ _ (g small) e h.0 h.1
-says_external word name third fourth group n (Down port) g e h = λ small low. four_same _ _ _ _ _ _ _ _ (g small) e h.0 (h.1 low)
-says_external word name third fourth group n (Up port) g e h = λ small low. four_same _ _ _ _ _ _ _ _ (g small) e h.0 (h.1 low)
-
-says_four : (word name third fourth : List ℕ) (l : Line) → four_fields word name third fourth ≡ Some l → Says (word ∷ name ∷ third ∷ fourth ∷ []) l
-unfolding four_fields
-says_four word name third fourth l e =
-    elim (chosen (is_word word (codes "prefix")) _ _ l e) [
-      | inl h ↦ (
-          let n = bind (name_of name) _ l h.1 in
-          let net = bind (net_of third) _ l n.2 in
-          let cost = bind (numeral_of fourth) _ l net.2 in
-          says_as _ (Prefix n.0 net.0 cost.0) l tt cost.2)
-      | inr e ↦ (
-          let group = bind (group_of word) _ l e in
-          let n = bind (name_of name) _ l group.2 in
-          let a = bind (ask_of third fourth) _ l n.2 in
-          says_as _ (External group.0 n.0 a.0) l (says_external word name third fourth group.0 n.0 a.0 (group_is word group.0 group.1) (name_is name n.0 n.1) (asks third fourth a.0 a.1)) a.2)
-    ]
-
-says_five : (word a b delay cost : List ℕ) (l : Line) → five_fields word a b delay cost ≡ Some l → Says (word ∷ a ∷ b ∷ delay ∷ cost ∷ []) l
-unfolding five_fields
-says_five word a b delay cost l e =
-    elim (chosen (is_word word (codes "link")) _ _ l e) [
-      | inl h ↦ (
-          let x = bind (name_of a) _ l h.1 in
-          let y = bind (name_of b) _ l x.2 in
-          let d = bind (numeral_of delay) _ l y.2 in
-          let k = bind (numeral_of cost) _ l d.2 in
-          says_as _ (Link x.0 y.0 d.0 k.0) l tt k.2)
-      | inr e ↦ no_line l e
-    ]
-
-says : (fields : List (List ℕ)) (l : Line) → line_of_fields fields ≡ Some l → Says fields l
-says [] l e = no_line l e
-says (word ∷ []) l e = says_one word l e
-says (word ∷ a ∷ []) l e = says_two word a l e
-says (word ∷ a ∷ b ∷ []) l e = says_three word a b l e
-says (word ∷ a ∷ b ∷ c ∷ []) l e = says_four word a b c l e
-says (word ∷ a ∷ b ∷ c ∷ d ∷ []) l e = says_five word a b c d l e
-says (word ∷ a ∷ b ∷ c ∷ d ∷ x ∷ more) l e = no_line l e
-
--- ---- the line
-
-pub newline_is : (text line : List ℕ) → before_newline text ≡ Some line → text ≡ line ++ 10 ∷ []
-unfolding before_newline
-newline_is text line e =
-    let n = length text - 1 in
-    elim (pointwise nat_eq (drop n text) (10 ∷ [])) as (λ b. pointwise nat_eq (drop n text) (10 ∷ []) ≡ b → cond b (Some (take n text)) None ≡ Some line → text ≡ line ++ 10 ∷ []) [
-      | true ↦ λ is e. (
-          let last : drop n text ≡ 10 ∷ [] = (bytes_decides (drop n text) (10 ∷ [])).0 is in
-          let front : take n text ≡ line = cc in
-          sym (take-append-drop n text) ∙ ap (λ (x : List ℕ). take n text ++ x) last ∙ ap (λ (x : List ℕ). x ++ 10 ∷ []) front)
-      | false ↦ λ _ e. absurd cc
-    ] refl e
-
-joined : (line : List ℕ) (fields : List (List ℕ)) → parts 32 line ≡ fields → line ≡ join_with_byte 32 fields
-unfolding parts
-joined line fields e = sym (join_with_byte-slice_split 32 line) ∙ ap (λ (fs : List (List ℕ)). join_with_byte 32 fs) e
+pub external_within : (group : Number) (name : List ℕ) (a : Ask) → IsSmall group → IsSmallAsk a → IsWithin (External group name a)
+external_within group name (Cmd hex) small low = small
+external_within group name (Down port) small low = (small, low)
+external_within group name (Up port) small low = (small, low)
 
 -- A line that is read as an external whose numbers are no more than 64 bits is that external's spelling.
-pub external_text : (text : List ℕ) (group : Number) (name : List ℕ) (a : Ask) → line_of text ≡ Some (External group name a) → IsSmall group → IsSmallAsk a → text ≡ spelled (External group name a)
-unfolding line_of spelled
-external_text text group name a e small low =
-    let line = bind (before_newline text) _ _ e in
-    let fields = says (parts 32 line.0) (External group name a) line.2 small low in
-    newline_is text line.0 line.1 ∙ ap (λ (x : List ℕ). x ++ 10 ∷ []) (joined line.0 _ fields)
+external_text : (text : List ℕ) (group : Number) (name : List ℕ) (a : Ask) → line_of text ≡ Some (External group name a) → IsSmall group → IsSmallAsk a → text ≡ spelled (External group name a)
+external_text text group name a e small low = (read_spelled text (External group name a) e (external_within group name a small low)).0
 
 -- ---- the external
 
@@ -263,10 +86,10 @@ ask_same group name (Cmd digits) shape small =
 ask_same group name (Down port) shape small = ap Down (number_same port small)
 ask_same group name (Up port) shape small = ap Up (number_same port small)
 
-abbrev new_of : Standing → Number → List ℕ → Ask → ExternalDef
+abbrev pub new_of : Standing → Number → List ℕ → Ask → ExternalDef
 new_of s group name a = record { group = value group; router = number_at s name; input = input_of a }
 
-line_again : (s : Standing) (group : Number) (name : List ℕ) (a : Ask) → IsHeading (case_of s).header → IsWell (External group name a) → first_of (table s (External group name a)) ≡ None →
+pub line_again : (s : Standing) (group : Number) (name : List ℕ) (a : Ask) → IsHeading (case_of s).header → IsWell (External group name a) → first_of (table s (External group name a)) ≡ None →
     IsSmall group × IsSmallAsk a × (external_line s.routers (new_of s group name a) ≡ External group name a)
 line_again s group name a h shape free =
     let range = free_test (not (below s.groups group && ask_fits a)) cause.Range _ free in

@@ -10,6 +10,7 @@ pub mod Sound
 pub mod Finishing
 pub mod Judging
 pub mod OneCase
+pub mod ReadLines
 pub mod Fields
 pub mod Spelled
 pub mod RoundTrip
@@ -18,3 +19,4 @@ pub mod PrefixLeads
 pub mod CaseAgain
 pub mod Fronts
 pub mod TraceSectionLaws
+pub mod OneSpelling

@@ -75,22 +75,22 @@ Sound place.Feed c = IsRecording c
 Sound place.External c = IsRecording c
 Sound place.End c = IsRecording c
 
-before_version : (p : Place) (c : Recording) → may_follow p place.Version ≡ true → Sound p c → IsBare c
+pub before_version : (p : Place) (c : Recording) → may_follow p place.Version ≡ true → Sound p c → IsBare c
 unfolding may_follow
 before_version place.Start c m h = h
 before_version _ c m h = absurd cc
 
-before_period : (p : Place) (c : Recording) → may_follow p place.Period ≡ true → Sound p c → IsBare c
+pub before_period : (p : Place) (c : Recording) → may_follow p place.Period ≡ true → Sound p c → IsBare c
 unfolding may_follow
 before_period place.Version c m h = h
 before_period _ c m h = absurd cc
 
-before_groups : (p : Place) (c : Recording) → may_follow p place.Groups ≡ true → Sound p c → IsBare c × IsPeriod c
+pub before_groups : (p : Place) (c : Recording) → may_follow p place.Groups ≡ true → Sound p c → IsBare c × IsPeriod c
 unfolding may_follow
 before_groups place.Period c m h = h
 before_groups _ c m h = absurd cc
 
-before_seed : (p : Place) (c : Recording) → may_follow p place.Seed ≡ true → Sound p c → IsBare c × IsPeriod c × IsGroups c
+pub before_seed : (p : Place) (c : Recording) → may_follow p place.Seed ≡ true → Sound p c → IsBare c × IsPeriod c × IsGroups c
 unfolding may_follow
 before_seed place.Groups c m h = h
 before_seed _ c m h = absurd cc
@@ -132,7 +132,7 @@ before_feed place.Link c m h = h.0
 before_feed place.Prefix c m h = h.0
 before_feed _ c m h = absurd cc
 
-before_external : (p : Place) (c : Recording) → may_follow p place.External ≡ true → Sound p c → IsRecording c
+pub before_external : (p : Place) (c : Recording) → may_follow p place.External ≡ true → Sound p c → IsRecording c
 unfolding may_follow
 before_external place.Feed c m h = h
 before_external place.External c m h = h

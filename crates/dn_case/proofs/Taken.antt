@@ -87,7 +87,7 @@ well_two word field l e =
       ]
     ]
 
-named : (text name : List ℕ) → name_of text ≡ Some name → is_name name ≡ true
+pub named : (text name : List ℕ) → name_of text ≡ Some name → is_name name ≡ true
 named text name e =
     elim (is_name text) as (λ b. is_name text ≡ b → cond b (Some text) None ≡ Some name → is_name name ≡ true) [
       | true ↦ λ is e. (let same : text ≡ name = cc in subst (λ (x : List ℕ). is_name x ≡ true) same is)

@@ -5,3 +5,4 @@ pub mod Takings
 pub mod Reading
 pub mod TraceSections
 pub mod Externals
+pub mod Orders

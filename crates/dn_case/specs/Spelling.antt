@@ -77,6 +77,21 @@ IsSpellable End = Unit {0}
 
 -- ---- a case
 
+-- no number of the line is beyond u64
+abbrev pub IsWithin : Line → Type 0
+IsWithin (Version n) = IsSmall n
+IsWithin (Period n) = IsSmall n
+IsWithin (Groups n) = IsSmall n
+IsWithin (Seed n) = IsSmall n
+IsWithin (Router name k) = Unit {0}
+IsWithin (Link a b delay cost) = IsSmall delay × IsSmall cost
+IsWithin (Prefix name net cost) = AreSmall net × IsSmall cost
+IsWithin Feed = Unit {0}
+IsWithin (External group name (Cmd hex)) = IsSmall group
+IsWithin (External group name (Down port)) = IsSmall group × IsSmall port
+IsWithin (External group name (Up port)) = IsSmall group × IsSmall port
+IsWithin End = Unit {0}
+
 abbrev pub router_line : RouterDef → Line
 router_line r = Router r.name r.kind
 

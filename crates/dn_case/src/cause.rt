@@ -5,6 +5,7 @@ ghost use Rattle.dn_case.specs.declared.cause.CaseError.TheVariants.{NoMemory as
 ghost use Rattle.dn_case.specs.declared.cause.LineError.TheVariants.{NoMemory as Memory};
 
 use std::alloc::AllocError;
+use thiserror::Error;
 
 /// What is wrong with a line. Where several causes hold for one line, the first of this order is told.
 #[derive(Clone, Copy, Debug)]
@@ -45,9 +46,13 @@ pub struct CaseFault {
 }
 
 /// Why a text gives no case.
-#[derive(Debug, Drop)]
+#[derive(Debug, Drop, Error)]
 pub enum CaseError {
+    /// The text has a bad line.
+    #[error("no case text: line {}: {:?}", .0.line, .0.cause)]
     Fault(CaseFault),
+    /// There was no memory for the case.
+    #[error("out of memory")]
     NoMemory,
 }
 

@@ -1,11 +1,13 @@
 //! Laws over all texts and cases.
 
-ghost use Rattle.std.specs.Prelude.{◌≡◌, ◌++◌, ℕ, List, Some, length, map, take};
+ghost use Rattle.std.specs.Prelude.{◌≡◌, ◌++◌, ℕ, List, [], Some, length, map, take};
+ghost use Rattle.std.specs.List.{AllByRecursion};
 ghost use Rattle.dn_model.specs.declared.feed.External.{External};
 ghost use Rattle.dn_model.specs.Cases.{Heading, IsHeading, Recording, IsRecording};
 ghost use Rattle.dn_case.specs.declared.cause.Cause.{Cause};
 ghost use Rattle.dn_case.specs.Shapes.{Line, line_of};
-ghost use Rattle.dn_case.specs.Spelling.{IsSpellable, spelled, lines_of, case_text};
+ghost use Rattle.dn_case.specs.Spelling.{IsSpellable, IsWithin, spelled, lines_of, case_text};
+ghost use Rattle.dn_case.specs.Orders.{other_lines, prefix_lines_of};
 ghost use Rattle.dn_case.specs.Externals.{IsExternalLine};
 ghost use Rattle.dn_case.specs.Reading.{IsCaseText, IsCaseFront, IsFirstBad};
 
@@ -24,12 +26,29 @@ pub fn a_spelled_line_is_read()
     ensures { (l : Line) → IsSpellable l → line_of (spelled l) ≡ Some l }
 {}
 
+/// A line that is read is the spelling of what it says, and that has a spelling. A number beyond 64 bits
+/// has none of its own: many digits say it.
+pub fn a_read_line_is_spelled()
+    ensures { (text : List ℕ) (l : Line) → line_of text ≡ Some l → IsWithin l → (text ≡ spelled l) × IsSpellable l }
+{}
+
 /// The text of a case is read as that case, whatever follows it.
 pub fn a_written_case_is_read()
     // Its lines are a case text of the case.
     ensures lines { (c : Recording) → IsRecording c → IsCaseText (map spelled (lines_of c)) c }
     // Its text is a front of any text that begins with it.
     ensures front { (c : Recording) (rest : List ℕ) → IsRecording c → IsCaseFront (case_text c ++ rest) c (length (case_text c)) }
+{}
+
+/// A case has one spelling, but that prefix lines of different routers may stand in any order among
+/// themselves.
+pub fn a_case_has_one_spelling()
+    // Two texts of one case have the same lines that aren't prefix lines, in their order.
+    ensures others { (ls ms : List (List ℕ)) (c : Recording) → IsCaseText ls c → IsCaseText ms c → other_lines ls ≡ other_lines ms }
+    // They have the same prefix lines of each router, in their order.
+    ensures prefixes { (ls ms : List (List ℕ)) (c : Recording) (name : List ℕ) → IsCaseText ls c → IsCaseText ms c → prefix_lines_of name ls ≡ prefix_lines_of name ms }
+    // A case without prefixes has one text.
+    ensures without { (ls ms : List (List ℕ)) (c : Recording) → AllByRecursion (λ r. r.prefixes ≡ []) c.header.routers → IsCaseText ls c → IsCaseText ms c → ls ≡ ms }
 {}
 
 /// A line is that of one external of a header at most.

@@ -46,8 +46,9 @@ mod write;
 pub use cause::{CaseError, CaseFault, Cause};
 pub use known_header::KnownHeader;
 pub use laws::{
-    a_line_has_one_external, a_spelled_line_is_read, a_text_has_one_case,
-    a_text_has_one_first_bad_line, a_written_case_is_read,
+    a_case_has_one_spelling, a_line_has_one_external, a_read_line_is_spelled,
+    a_spelled_line_is_read, a_text_has_one_case, a_text_has_one_first_bad_line,
+    a_written_case_is_read,
 };
 pub use read::read_case;
 pub use trace_section::split_trace;
