@@ -19,8 +19,8 @@
 //! | `command.rt` | commands, which set and take away own networks |
 //! | `step.rt` | the step by cases on the input |
 //!
-//! The one contract upwards: `Router::step` is `stepped` of `specs/Step.antt`, for every input of any port
-//! and any bytes but a tick past 65,535. What it puts out stands in the router's `out`.
+//! The one contract upwards: `Router::step` is `next` of `specs/Step.antt`, for every input of any port and
+//! any bytes. What it puts out stands in the router's `out`.
 #![tactic(auto)]
 
 mod ack;

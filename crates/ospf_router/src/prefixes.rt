@@ -1,4 +1,4 @@
-//! The router's own networks.
+//! The router's own networks, which are the stub links of its router-LSA (RFC 2328 section 12.4.1).
 
 ghost use Rattle.std.specs.Prelude.{◌≡◌, ◌↔◌, ◌≤◌, [], IsTrue, IfOk, OnOk, length};
 ghost use Rattle.ospf_router.specs.Prefixes.{AreNetworks, has_room, is_network, network_cmp, with_network, without_network};

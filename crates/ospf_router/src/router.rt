@@ -1,4 +1,4 @@
-//! A router in the middle of a step.
+//! A router in the middle of a step (RFC 2328 section 8.2): its state, and what it has put out so far.
 
 ghost use Rattle.std.specs.Prelude.{◌≡◌, ◌↔◌, ◌≤◌, [], IsTrue, IfOk, length};
 ghost use Rattle.ospf_router.specs.State.{id_of, opening, opening_prefixes, router_of, state_of};

@@ -1,4 +1,4 @@
-//! What a router begins with.
+//! What a router begins with. That is this project's own.
 
 ghost use Rattle.std.specs.Prelude.{◌≡◌};
 

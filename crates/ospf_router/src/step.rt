@@ -1,4 +1,6 @@
-//! The step by cases on the input.
+//! The step by cases on the input: a packet goes by its type to what takes it (RFC 2328 section 8.2), and a
+//! port that goes down takes its neighbour Down (section 9.3). That ticks and commands are inputs too is this
+//! project's own.
 
 ghost use Rattle.std.specs.Prelude.{◌≡◌, ◌<◌, OnOk, false, length};
 ghost use Rattle.ospf_wire.specs.Packets.{IsEncodable};

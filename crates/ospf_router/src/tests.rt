@@ -126,6 +126,19 @@ fn a_silent_neighbour_is_down_after_forty_ticks(rt: HostRuntime) -> Result<(), F
 }
 
 #[test]
+fn a_hello_of_a_known_neighbour_is_heard_now(rt: HostRuntime) -> Result<(), Fail> {
+    assert_eq!(rt;
+        run(
+            rt.alloc(),
+            &[10, 7],
+            turns::A_HELLO_OF_A_KNOWN_NEIGHBOUR_IS_HEARD_NOW
+        )?,
+        None
+    );
+    Ok(())
+}
+
+#[test]
 fn a_port_that_goes_down(rt: HostRuntime) -> Result<(), Fail> {
     assert_eq!(rt;
         run(rt.alloc(), &[10, 7], turns::A_PORT_THAT_GOES_DOWN)?,
@@ -176,6 +189,19 @@ fn own_lsas_that_come_from_outside(rt: HostRuntime) -> Result<(), Fail> {
             rt.alloc(),
             &[10, 20],
             turns::OWN_LSAS_THAT_COME_FROM_OUTSIDE
+        )?,
+        None
+    );
+    Ok(())
+}
+
+#[test]
+fn a_foreign_instance_of_the_wanted_body(rt: HostRuntime) -> Result<(), Fail> {
+    assert_eq!(rt;
+        run(
+            rt.alloc(),
+            &[10],
+            turns::A_FOREIGN_INSTANCE_OF_THE_WANTED_BODY
         )?,
         None
     );
