@@ -264,7 +264,7 @@ sound-greeted_by port from h r sound =
 
 -- ---- an Update
 
-sound-took : (full port : ℕ) (t : Taken) (l : Lsa) → is_sendable l ≡ true → IsSoundRouter t.router → IsSoundRouter (took full port t l).router
+pub sound-took : (full port : ℕ) (t : Taken) (l : Lsa) → is_sendable l ≡ true → IsSoundRouter t.router → IsSoundRouter (took full port t l).router
 unfolding took answered kept_by
 sound-took full port t l sendable sound =
     let r = t.router in

@@ -36,7 +36,7 @@ use Rattle.ospf_router.specs.Interfaces.{AtPorts, full_mask, has_port, is_listed
 use Rattle.ospf_router.specs.Origination.{advertised, finished, has_next, is_outdated, links_from, may_originate, removed, removed_one, renewed, stub_of, wanted_body, wanted_links}
 use Rattle.ospf_router.specs.Prefixes.{Network, Networks, has_room, is_network, network_cmp, with_network, without_network}
 use Rattle.ospf_router.specs.Sending.{flooded_on}
-use Rattle.ospf_router.specs.Sound.{HasBytes, IsSoundDatabase, IsSoundEntry, IsSoundList, IsSoundNetworks, IsSoundState, most}
+use Rattle.ospf_router.specs.Sound.{HasBytes, IsSoundDatabase, IsSoundEntry, IsSoundList, IsSoundNetworks, IsSoundState, most, ospf_run}
 use Rattle.ospf_router.specs.State.{OspfState, Prefix, id_of, opening, opening_prefixes, router_of, state_of, with_prefix}
 use Rattle.ospf_router.specs.Step.{body_taken, handled, is_from_full, is_passed_over, message, next, ospf_after, packet_taken, port_down, stepped}
 use Rattle.ospf_router.specs.Hellos.{greeted_by}
@@ -305,3 +305,10 @@ sound-opening number costs prefixes few = record {
   database = record { rising = tt; each = tt; few = omega arith };
   listed = empty_lists (length costs);
 }
+
+run_from : (s : OspfState) (es : List (ℕ × Input)) → AllByRecursion (λ (e : ℕ × Input). HasBytes e.1) es → IsSoundState s → IsSoundState (ospf_run s es)
+run_from s [] all sound = sound
+run_from s (e ∷ es) all sound = run_from (ospf_after s e.0 e.1) es all.1 (sound-step s e.0 e.1 all.0 sound)
+
+pub sound-run : (number : ℕ) (costs : List ℕ) (prefixes : List Prefix) (es : List (ℕ × Input)) → length costs ≤ 16 → AllByRecursion (λ (e : ℕ × Input). HasBytes e.1) es → IsSoundState (ospf_run (opening number costs prefixes) es)
+sound-run number costs prefixes es few all = run_from (opening number costs prefixes) es all (sound-opening number costs prefixes few)

@@ -1,5 +1,5 @@
 -- What holds of every state that a router reaches. The law is `sound_states` of src/laws.rt.
-use Rattle.std.specs.Prelude.{◌≡◌, ◌≤◌, ◌<◌, ◌^◌, ◌+◌, ℕ, ⊤, Bool, true, if◌then◌else◌, length, All, IfSome, Option, is_some}
+use Rattle.std.specs.Prelude.{◌≡◌, ◌≤◌, ◌<◌, ◌^◌, ◌+◌, ℕ, ⊤, Bool, true, if◌then◌else◌, List, [], ◌∷◌, length, All, IfSome, Option, is_some}
 use Rattle.std.specs.List.{AllByRecursion}
 use Rattle.std.specs.List.Sorted.{IsStrictlySortedBy}
 use Rattle.std.specs.Map.{keys_of}
@@ -12,6 +12,7 @@ use Rattle.ospf_lsdb.specs.Database.{Database, kept_at}
 use Rattle.ospf_flood.specs.Lists.{OnPort}
 use Rattle.ospf_router.specs.Prefixes.{Networks, network_cmp}
 use Rattle.ospf_router.specs.State.{OspfState}
+use Rattle.ospf_router.specs.Step.{ospf_after}
 use Rattle.ospf_router.specs.Updates.{is_sendable}
 
 -- An LSA stands at its own name, its length is that of its bytes and leaves room for the packet around it, and it was
@@ -56,3 +57,8 @@ HasBytes (Cmd bytes) = ⊤
 HasBytes (Down port) = ⊤
 HasBytes (Up port) = ⊤
 HasBytes (Msg port bytes) = All (λ b. b < 2 ^ 8) bytes
+
+-- the state after these steps, each with the mask of its up ports
+abbrev pub ospf_run : OspfState → List (ℕ × Input) → OspfState
+ospf_run s [] = s
+ospf_run s (e ∷ es) = ospf_run (ospf_after s e.0 e.1) es

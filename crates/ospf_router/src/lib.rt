@@ -41,7 +41,7 @@ mod update;
 mod updates;
 
 pub use interfaces::{Interfaces, Port};
-pub use laws::{sound_states, sound_states_are_plain};
+pub use laws::{sound_parts, sound_states, sound_states_are_plain};
 pub use neighbour::{Heard, Neighbour};
 pub use prefixes::Prefixes;
 pub use router::Router;
