@@ -7,6 +7,7 @@
 //! | `image.rt` | the bytes that tell the state |
 //! | `ports_image.rt`, `database_image.rt` | their parts for the ports and for the database |
 //! | `show.rt` | the lines that tell neighbours and routes |
+//! | `laws.rt` | that what image and show mark or leave out is in no state that a router reaches |
 //!
 //! The one contract upwards: `Ospf` is a `Guest` of sort 1 whose meaning is `ospf` of `specs/Ospf.antt`, on
 //! plain data: the step of `ospf_router`, the image and the show of `specs/`.
@@ -14,10 +15,12 @@
 
 mod database_image;
 mod image;
+mod laws;
 mod ospf;
 mod ports_image;
 mod show;
 
+pub use laws::sound_states_are_told_plainly;
 pub use ospf::Ospf;
 pub use ospf_router::{Costs, OspfSettings, PrefixList};
 pub use std::alloc::AllocError as NoMemory;

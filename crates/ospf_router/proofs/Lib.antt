@@ -1,3 +1,10 @@
+pub mod Rising
+pub mod Choice
+pub mod Database
+pub mod Received
+pub mod Routers
+pub mod Steps
+pub mod Plain
 pub mod Folds
 pub mod Lengths
 pub mod Equalities

@@ -11,3 +11,4 @@ pub mod Ticks
 pub mod Origination
 pub mod Commands
 pub mod Step
+pub mod Sound

@@ -18,6 +18,7 @@
 //! | `originate.rt` | the end of a step: the router's own LSA, and LSAs that are gone |
 //! | `command.rt` | commands, which set and take away own networks |
 //! | `step.rt` | the step by cases on the input |
+//! | `laws.rt` | what holds of every state that a router reaches |
 //!
 //! The one contract upwards: `Router::step` is `next` of `specs/Step.antt`, for every input of any port and
 //! any bytes. What it puts out stands in the router's `out`.
@@ -27,6 +28,7 @@ mod ack;
 mod command;
 mod hello;
 mod interfaces;
+mod laws;
 mod neighbour;
 mod originate;
 mod prefixes;
@@ -39,6 +41,7 @@ mod update;
 mod updates;
 
 pub use interfaces::{Interfaces, Port};
+pub use laws::{sound_parts, sound_states, sound_states_are_plain};
 pub use neighbour::{Heard, Neighbour};
 pub use prefixes::Prefixes;
 pub use router::Router;

@@ -1,0 +1,11 @@
+-- What holds of both of two values holds of the one that is chosen, and what each step keeps a fold keeps.
+use Rattle.std.proofs.Common.{◌≡◌, Bool, true, false, cond, List, [], ◌∷◌, refl}
+use Rattle.std.specs.Prelude.{fold}
+
+pub choose : {A : Type 0} (P : A → Type 0) (b : Bool) (x y : A) → (b ≡ true → P x) → (b ≡ false → P y) → P (cond b x y)
+choose P true x y f g = f refl
+choose P false x y f g = g refl
+
+pub folded : {A B : Type 0} (P : B → Type 0) (f : B → A → B) → ((b : B) (x : A) → P b → P (f b x)) → (xs : List A) (b : B) → P b → P (fold f b xs)
+folded P f keeps [] b h = h
+folded P f keeps (x ∷ xs) b h = folded P f keeps xs (f b x) (keeps b x h)
