@@ -1,5 +1,5 @@
 -- What there is to do: its condition holds, and that of no other answer does.
-use Rattle.std.proofs.Common.{◌≡◌, ℕ, zero, suc, ◌+◌, ◌<◌, ◌≤◌, Bool, true, false, not, ◌&&◌, List, [], ◌∷◌, length, get_or, map, refl, sym, ap, ◌∙◌, subst, arith}
+use Rattle.std.proofs.Common.{◌≡◌, ℕ, zero, suc, ◌+◌, ◌<◌, Bool, true, false, not, ◌&&◌, List, [], ◌∷◌, length, get_or, map, refl, sym, ap, ◌∙◌, subst, arith}
 use Rattle.std.specs.Prelude.{Option, Some, None, if◌then◌else◌, nat_lt, slice_get}
 use Rattle.std.specs.Ordering.{is_lt, is_gt}
 use Rattle.std.specs.declared.cmp.Ordering.{Ordering}
@@ -22,7 +22,7 @@ use Rattle.dn_router.specs.Routers.{Speculation}
 use Rattle.dn_fabric.specs.Fabrics.{Fabric}
 use Rattle.dn_fabric.specs.Holds.{IsFabric}
 use Rattle.dn_fabric.proofs.Calls.{horizon_past}
-use Rattle.dn_fabric.specs.Work.{first_behind, is_earlier, earlier_of, least_ready, can_commit, committing, handling, rolling_back, delivering, next_work, IsFree, IsNotLater, IsFirstBehind, IsStill, IsFirstFree, IsIdle, IsCommitted, HasWork}
+use Rattle.dn_fabric.specs.Work.{first_behind, is_earlier, earlier_of, least_ready, can_commit, committing, handling, rolling_back, delivering, next_work, IsFree, IsFirstBehind, IsStill, IsFirstFree, IsIdle, IsCommitted, HasWork}
 
 -- ---- the order of events
 
