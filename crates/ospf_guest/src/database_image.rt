@@ -1,4 +1,4 @@
-//! The bytes that tell the database.
+//! The bytes that tell the database. They are this project's own.
 
 ghost use Rattle.std.specs.Prelude.{◌≡◌, ◌++◌, ◌≤◌, ◌^◌, OnOk};
 ghost use Rattle.std.specs.List.{flat_map};

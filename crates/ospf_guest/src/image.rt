@@ -1,4 +1,5 @@
-//! The bytes that tell the state.
+//! The bytes that tell the whole state: the front, the own networks, and the parts of the two other files.
+//! They are this project's own.
 
 ghost use Rattle.std.specs.Prelude.{◌≡◌, ◌++◌, OnOk, ◌≤◌, length};
 ghost use Rattle.std.specs.List.{flat_map};

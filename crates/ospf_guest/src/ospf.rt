@@ -1,4 +1,4 @@
-//! The guest.
+//! The guest: the router of `ospf_router` on the trait of guests. That is this project's own.
 
 ghost use Rattle.std.specs.Prelude.{◌≡◌, ◌↔◌, ◌≤◌, ◌++◌, IsTrue, IfOk, OnOk, length, refl};
 ghost use Rattle.dn_guest.specs.KeepsFront.{KeepsFront};

@@ -1,4 +1,4 @@
-//! The bytes that tell the ports: costs, neighbours and retransmission lists.
+//! The bytes that tell the ports: costs, neighbours and retransmission lists. They are this project's own.
 
 ghost use Rattle.std.specs.Prelude.{◌≡◌, ◌++◌, ◌*◌, ◌+◌, OnOk, ◌≤◌, ◌<◌, length};
 ghost use Rattle.std.specs.List.{flat_map};

@@ -1,4 +1,4 @@
-//! The lines that tell neighbours and routes.
+//! The lines that tell a reader of neighbours and routes. They are this project's own.
 
 ghost use Rattle.std.specs.Prelude.{◌≡◌, ◌++◌, ◌+◌, ◌≤◌, OnOk, length};
 ghost use Rattle.std.specs.List.{flat_map};
