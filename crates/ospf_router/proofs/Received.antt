@@ -1,5 +1,5 @@
 -- What flooding an LSA and receiving one do to a database and its lists leaves them sound.
-use Rattle.std.proofs.Common.{◌≡◌, ℕ, Bool, true, false, cond, not, ◌&&◌, ◌||◌, ◌+◌, ◌≤◌, suc, List, [], ◌∷◌, length, refl, ap, ◌∙◌, arith}
+use Rattle.std.proofs.Common.{◌≡◌, ℕ, Bool, true, false, cond, not, ◌&&◌, ◌||◌, ◌+◌, ◌≤◌, suc, [], ◌∷◌, length, refl, ap, ◌∙◌, arith}
 use Rattle.std.specs.Prelude.{Option, Some, None, is_some, ◌==◌, nat_le}
 use Rattle.std.specs.Option.{is_none}
 use Rattle.std.specs.List.{AllByRecursion}
@@ -17,10 +17,10 @@ use Rattle.ospf_flood.specs.declared.table.Verdict.{Verdict}
 use Rattle.ospf_flood.specs.declared.table.Verdict.TheVariants.{Discarded, Acked, Installed, SentBack, Implied}
 use Rattle.ospf_flood.specs.Lists.{OnPorts, list_of, off, off_all, tick_of}
 use Rattle.ospf_flood.specs.Flooding.{State, flooded, noted, put_from}
-use Rattle.ospf_flood.specs.Table.{by_table, copy_is, came_now, has_right_sum, is_last, is_newer, is_router_lsa, is_same, taken, verdict_of, went_now}
+use Rattle.ospf_flood.specs.Table.{by_table, has_right_sum, is_router_lsa, verdict_of}
 use Rattle.ospf_flood.specs.Receiving.{after, flushed, installed, is_own, is_stray, received, spread, to_install}
 use Rattle.ospf_flood.proofs.ListLaws.{key_cmp_total}
-use Rattle.ospf_router.specs.Sound.{IsSoundDatabase, IsSoundEntry, IsSoundList, most}
+use Rattle.ospf_router.specs.Sound.{IsSoundDatabase, IsSoundEntry, IsSoundList}
 use Rattle.ospf_router.specs.Updates.{is_sendable}
 use Rattle.ospf_router.proofs.Choice.{choose}
 use Rattle.ospf_router.proofs.Rising.{finds-insert, finds-new}
