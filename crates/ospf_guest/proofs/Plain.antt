@@ -28,7 +28,7 @@ not_above : (n : ℕ) → n ≤ 65535 → nat_lt 65535 n ≡ false
 not_above n few = grind (arith, nat_tests)
 
 pub sound_lists : (s : OspfState) → IsSoundState s → AllByRecursion (λ (l : OnPort). is_long l ≡ false) s.interfaces.lists
-sound_lists s sound = all_more (λ l. length l ≤ 65535) (λ l. is_long l ≡ false) (λ l few. not_above (length l) few) s.interfaces.lists (short_lists s sound)
+sound_lists s sound = all_more (λ (l : OnPort). length l ≤ 65535) (λ (l : OnPort). is_long l ≡ false) (λ l few. not_above (length l) few) s.interfaces.lists (short_lists s sound)
 
 -- ---- an LSA is plain
 
@@ -60,7 +60,7 @@ plain e sound =
     (and_both (nat_lt (one_more e.1.sent) (2 ^ 32)) _ (sent_early e.1.sent sound.sent) (short_body (length e.1.lsa.body) e.1.lsa.head.length sound.sendable))
 
 pub sound_lsas : (s : OspfState) → IsSoundState s → AllByRecursion (λ (e : LsaKey × Kept). is_plain e.0 e.1 ≡ true) s.db
-sound_lsas s sound = all_more IsSoundEntry (λ e. is_plain e.0 e.1 ≡ true) plain s.db sound.database.each
+sound_lsas s sound = all_more IsSoundEntry (λ (e : LsaKey × Kept). is_plain e.0 e.1 ≡ true) plain s.db sound.database.each
 
 -- ---- how many there are
 

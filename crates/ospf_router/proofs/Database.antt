@@ -1,19 +1,19 @@
 -- Each change of a router's database and of its lists leaves them sound.
-use Rattle.std.proofs.Common.{◌≡◌, ℕ, Bool, true, false, cond, not, ◌&&◌, ◌||◌, ◌+◌, ◌≤◌, ◌<◌, zero, suc, List, [], ◌∷◌, length, map, min, refl, sym, ap, subst, ◌∙◌, arith}
-use Rattle.std.specs.Prelude.{Option, Some, None, IfSome, is_some, ◌==◌, nat_le, slice_set, slice_index_or}
+use Rattle.std.proofs.Common.{◌≡◌, ℕ, Bool, true, false, cond, ◌||◌, ◌+◌, ◌≤◌, zero, suc, List, [], ◌∷◌, length, refl, sym, ap, subst, ◌∙◌, arith}
+use Rattle.std.specs.Prelude.{Option, Some, None, is_some, slice_set}
 use Rattle.std.specs.List.{AllByRecursion, list_any}
 use Rattle.std.specs.List.Sorted.{IsStrictlySortedBy}
-use Rattle.std.specs.Map.{keys_of, lookup, remove_entry}
-use Rattle.std.specs.BTreeMap.{insert_entry, is_at}
+use Rattle.std.specs.Map.{keys_of, remove_entry}
+use Rattle.std.specs.BTreeMap.{is_at}
 use Rattle.std.specs.declared.cmp.Ordering.{Ordering}
 use Rattle.std.specs.declared.cmp.Ordering.TheVariants.{Less, Equal, Greater}
-use Rattle.std.specs.Ordering.{is_eq, match_ordering}
+use Rattle.std.specs.Ordering.{match_ordering}
 use Rattle.std.proofs.lemmas.Map.Entries.{length-keys_of}
 use Rattle.std.proofs.lemmas.Map.Made.{is_some-lookup, keys_of-map_values}
 use Rattle.dn_guest.specs.Ports.{is_up}
 use Rattle.ospf_lsdb.specs.declared.key.LsaKey.{LsaKey}
 use Rattle.ospf_lsdb.specs.declared.kept.Kept.{Kept}
-use Rattle.ospf_lsdb.specs.Keys.{key_cmp, key_of}
+use Rattle.ospf_lsdb.specs.Keys.{key_cmp}
 use Rattle.ospf_lsdb.specs.Kept.{at_end, reaches_end}
 use Rattle.ospf_lsdb.specs.Database.{Database, aged, changed, kept_at, with_kept, without}
 use Rattle.ospf_lsdb.proofs.DatabaseLaws.{exact_keys}
@@ -21,7 +21,7 @@ use Rattle.ospf_flood.specs.Lists.{OnPort, OnPorts, list_of, off, off_all, tick_
 use Rattle.ospf_flood.specs.Flooding.{put_from}
 use Rattle.ospf_router.specs.Sound.{IsSoundDatabase, IsSoundEntry, IsSoundList, most}
 use Rattle.ospf_flood.proofs.ListLaws.{key_cmp_total}
-use Rattle.ospf_router.proofs.Rising.{Finds, all_more, each-insert, each-remove, finds-insert, finds-remove, is_eq-true, length-insert, length-remove, one, rises-insert, rises-remove}
+use Rattle.ospf_router.proofs.Rising.{all_more, each-insert, each-remove, finds-insert, finds-remove, is_eq-true, length-insert, length-remove, one, rises-insert, rises-remove}
 
 abbrev pub Has : Database → LsaKey → Type 0
 Has db q = is_some (kept_at db q) ≡ true

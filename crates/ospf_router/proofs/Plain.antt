@@ -1,6 +1,6 @@
 -- What a sound state tells of its LSAs and lists.
-use Rattle.std.proofs.Common.{◌≡◌, ◌+◌, ◌^◌, ◌≤◌, ◌<◌, ℕ, Bool, true, false, cond, List, [], ◌∷◌, length, sym, ap, subst, ◌∙◌, arith}
-use Rattle.std.specs.Prelude.{All, IfSome, Option, Some, None, is_some, option_map}
+use Rattle.std.proofs.Common.{◌≡◌, ◌+◌, ◌^◌, ◌≤◌, ◌<◌, ℕ, Bool, true, false, cond, List, [], ◌∷◌, length, sym, subst, arith}
+use Rattle.std.specs.Prelude.{All, IfSome, Option, Some, None, option_map}
 use Rattle.std.specs.List.{AllByRecursion}
 use Rattle.std.specs.Map.{keys_of}
 use Rattle.std.specs.BTreeMap.{is_at}
@@ -17,7 +17,7 @@ use Rattle.ospf_lsdb.specs.declared.kept.Kept.{Kept}
 use Rattle.ospf_lsdb.specs.Keys.{key_cmp, own_key}
 use Rattle.ospf_lsdb.specs.Kept.{age_of}
 use Rattle.ospf_lsdb.specs.Database.{Database, kept_at}
-use Rattle.ospf_flood.specs.Lists.{OnPort, OnPorts}
+use Rattle.ospf_flood.specs.Lists.{OnPort}
 use Rattle.ospf_flood.proofs.ListLaws.{key_cmp_total}
 use Rattle.ospf_router.specs.State.{OspfState}
 use Rattle.ospf_router.specs.Sound.{IsSoundEntry, IsSoundList, IsSoundState}

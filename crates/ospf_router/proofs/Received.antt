@@ -1,32 +1,31 @@
 -- What flooding an LSA and receiving one do to a database and its lists leaves them sound.
-use Rattle.std.proofs.Common.{◌≡◌, ℕ, Bool, true, false, cond, not, ◌&&◌, ◌||◌, ◌+◌, ◌≤◌, suc, List, [], ◌∷◌, length, refl, ap, ◌∙◌, arith}
+use Rattle.std.proofs.Common.{◌≡◌, ℕ, Bool, true, false, cond, not, ◌&&◌, ◌||◌, ◌≤◌, length, refl, ◌∙◌, arith}
 use Rattle.std.specs.Prelude.{Option, Some, None, is_some, ◌==◌, nat_le}
 use Rattle.std.specs.Option.{is_none}
 use Rattle.std.specs.List.{AllByRecursion}
 use Rattle.std.specs.Map.{keys_of}
 use Rattle.std.proofs.lemmas.Bool.Decides.{nat_tests}
-use Rattle.std.proofs.lemmas.List.{length-set}
+use Rattle.std.proofs.lemmas.List.{length-map, length-set}
 use Rattle.dn_guest.specs.Ports.{with_down}
 use Rattle.ospf_wire.specs.declared.lsa.Lsa.{Lsa}
 use Rattle.ospf_lsdb.specs.declared.key.LsaKey.{LsaKey}
 use Rattle.ospf_lsdb.specs.declared.kept.Kept.{Kept}
-use Rattle.ospf_lsdb.specs.Keys.{key_of}
+use Rattle.ospf_lsdb.specs.Keys.{key_cmp, key_of}
 use Rattle.ospf_lsdb.specs.Kept.{at_end, fresh, sent_at}
 use Rattle.ospf_lsdb.specs.Database.{Database, changed, kept_at, with_kept}
 use Rattle.ospf_flood.specs.declared.table.Verdict.{Verdict}
 use Rattle.ospf_flood.specs.declared.table.Verdict.TheVariants.{Discarded, Acked, Installed, SentBack, Implied}
-use Rattle.ospf_flood.specs.Lists.{OnPorts, list_of, off, off_all, tick_of}
-use Rattle.ospf_flood.specs.Flooding.{State, flooded, noted, put_from}
-use Rattle.ospf_flood.specs.Table.{by_table, copy_is, came_now, has_right_sum, is_last, is_newer, is_router_lsa, is_same, taken, verdict_of, went_now}
+use Rattle.ospf_flood.specs.Lists.{list_of, off, off_all, tick_of}
+use Rattle.ospf_flood.specs.Flooding.{State, flooded, noted}
+use Rattle.ospf_flood.specs.Table.{by_table, has_right_sum, is_router_lsa, verdict_of}
 use Rattle.ospf_flood.specs.Receiving.{after, flushed, installed, is_own, is_stray, received, spread, to_install}
 use Rattle.ospf_flood.proofs.ListLaws.{key_cmp_total}
-use Rattle.ospf_router.specs.Sound.{IsSoundDatabase, IsSoundEntry, IsSoundList, most}
+use Rattle.ospf_router.specs.Sound.{IsSoundDatabase, IsSoundEntry, IsSoundList}
 use Rattle.ospf_router.specs.Updates.{is_sendable}
 use Rattle.ospf_router.proofs.Choice.{choose}
+use Rattle.ospf_router.proofs.Lengths.{length-flooded}
 use Rattle.ospf_router.proofs.Rising.{finds-insert, finds-new}
 use Rattle.ospf_router.proofs.Database.{Has, has-kept, keys-changed, le-most, list_at, lists_more, off_list, off_lists, put_lists, set_lists, sound-at_end, sound-changed, sound-with}
-use Rattle.ospf_lsdb.specs.Keys.{key_cmp}
-use Rattle.std.proofs.lemmas.List.{length-map}
 
 -- a database and its lists, so many of them
 pub record IsSound (own : LsaKey) (many : ℕ) (s : State) : Type 0 where
@@ -38,10 +37,6 @@ pub sound-sent_at : (now : ℕ) → now ≤ 65535 → (e : LsaKey × Kept) → I
 sound-sent_at now few e sound = record { named = sound.named; sendable = sound.sendable; sent = few }
 
 -- ---- flooding
-
-length-put : (p ports tick : ℕ) (key : LsaKey) (ls : OnPorts) → length (put_from p ports key tick ls) ≡ length ls
-length-put p ports tick key [] = refl
-length-put p ports tick key (l ∷ ls) = ap suc (length-put (p + 1) ports tick key ls)
 
 pub keys-noted : (mask now : ℕ) (key : LsaKey) (db : Database) → keys_of (noted mask key now db) ≡ keys_of db
 keys-noted mask now key db =
@@ -57,7 +52,7 @@ sound-flooded own key many mask now s few has sound =
     record {
       database = sound-noted own key mask now s.db few sound.database;
       listed = put_lists (noted mask key now s.db) 0 mask now key s.lists (kept key has) (lists_more s.db (noted mask key now s.db) s.lists kept sound.listed);
-      count = length-put 0 mask now key s.lists ∙ sound.count;
+      count = length-flooded mask key now s ∙ sound.count;
     }
 
 -- ---- what is installed

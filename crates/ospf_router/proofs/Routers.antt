@@ -1,12 +1,10 @@
 -- Each part of a step leaves a sound router.
-use Rattle.std.proofs.Common.{◌≡◌, ℕ, Bool, true, false, cond, not, ◌&&◌, ◌+◌, ◌*◌, ◌%◌, ◌≤◌, List, [], ◌∷◌, ◌++◌, length, map, refl, sym, ap, subst, ◌∙◌, arith, length-append}
-use Rattle.std.specs.Prelude.{Option, Some, None, is_some, ◌==◌, ◌||◌, nat_le, nat_lt, fold, slice_set, slice_index_or}
+use Rattle.std.proofs.Common.{◌≡◌, ℕ, true, cond, ◌+◌, ◌%◌, ◌≤◌, List, [], ◌∷◌, length, sym, ◌∙◌, arith}
+use Rattle.std.specs.Prelude.{◌==◌, nat_le, fold, slice_set}
 use Rattle.std.specs.List.{AllByRecursion, list_any}
 use Rattle.std.specs.Map.{keys_of}
-use Rattle.std.proofs.lemmas.Bool.Decides.{nat_tests}
-use Rattle.std.proofs.lemmas.List.{length-map, length-set}
+use Rattle.std.proofs.lemmas.List.{length-set}
 use Rattle.dn_guest.specs.Ports.{is_up}
-use Rattle.dn_guest.specs.declared.outbox.Output.{Output}
 use Rattle.ospf_wire.specs.declared.lsa.Lsa.{Lsa}
 use Rattle.ospf_wire.specs.declared.lsa.LsaHeader.{LsaHeader}
 use Rattle.ospf_wire.specs.declared.hello.Hello.{Hello}
@@ -17,27 +15,26 @@ use Rattle.ospf_lsdb.specs.declared.kept.Kept.{Kept}
 use Rattle.ospf_lsdb.specs.Keys.{key_of, own_key}
 use Rattle.ospf_lsdb.specs.Kept.{sent_at, reaches_end}
 use Rattle.ospf_lsdb.specs.Database.{Database, aged, changed, ending, kept_at}
-use Rattle.ospf_flood.specs.Lists.{OnPort, OnPorts, due, list_of, off, with_tick}
+use Rattle.ospf_flood.specs.Lists.{OnPort, due, list_of, off, with_tick}
 use Rattle.ospf_flood.specs.Flooding.{State, flooded, state}
 use Rattle.ospf_flood.specs.Receiving.{received}
 use Rattle.ospf_flood.proofs.ListLaws.{key_cmp_total}
 use Rattle.ospf_router.specs.declared.neighbour.Neighbour.{Neighbour}
 use Rattle.ospf_router.specs.declared.neighbour.Neighbour.TheVariants.{Down, Init, Full}
-use Rattle.ospf_router.specs.declared.interfaces.Port.{Port}
 use Rattle.ospf_router.specs.declared.router.Router.{Router}
-use Rattle.ospf_router.specs.State.{OspfState, id_of, state_of}
+use Rattle.ospf_router.specs.State.{id_of, state_of}
 use Rattle.ospf_router.specs.Interfaces.{AtPorts, emptied, listed, lowered, neighbour_at, port_at, unlisted, with_neighbour}
 use Rattle.ospf_router.specs.Neighbours.{heard_now, is_dead, is_full, is_other}
-use Rattle.ospf_router.specs.Updates.{is_sendable, copy_of, update_on, updates_on}
+use Rattle.ospf_router.specs.Updates.{is_sendable, updates_on}
 use Rattle.ospf_router.specs.Sending.{flooded_by, flooded_on, noted_at, offered, put_packet, putting, with_state}
 use Rattle.ospf_router.specs.Ticks.{ended, greeting, greeting_at, ports_of, resent, resent_at, ticked, timed, watched, watched_at}
 use Rattle.ospf_router.specs.Hellos.{greeted_by, hello_to, is_accepted, now_full, one_way, two_way, with_other}
-use Rattle.ospf_router.specs.Receiving.{Taken, acknowledged, acks_by, answered, judged, kept_by, outs_by, taken_of, took, updated}
+use Rattle.ospf_router.specs.Receiving.{Taken, acknowledged, answered, kept_by, taken_of, took, updated}
 use Rattle.ospf_router.specs.Acknowledging.{acked, acked_one, is_copy}
 use Rattle.ospf_router.specs.Interfaces.{full_mask}
-use Rattle.ospf_router.specs.Sound.{IsSoundDatabase, IsSoundList, IsSoundState}
+use Rattle.ospf_router.specs.Sound.{IsSoundList, IsSoundState}
 use Rattle.ospf_router.proofs.Choice.{choose, folded}
-use Rattle.ospf_router.proofs.Rising.{Each, all_more, each-filter, finds_each}
+use Rattle.ospf_router.proofs.Rising.{all_more, each-filter, finds_each}
 use Rattle.ospf_router.proofs.Database.{Has, empty_list, has-kept, keys-aged, keys-changed, list_at, lists_more, off_list, set_lists, sound-aged, sound-changed, with_list}
 use Rattle.ospf_router.proofs.Received.{IsSound, keys-noted, sound-flooded, sound-received, sound-sent_at}
 

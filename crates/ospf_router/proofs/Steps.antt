@@ -1,9 +1,9 @@
 -- A step leaves a sound state, and the state at the start is one.
-use Rattle.std.proofs.Common.{◌≡◌, ℕ, Bool, true, false, cond, not, ◌&&◌, ◌||◌, ◌+◌, ◌*◌, ◌^◌, ◌≤◌, ◌<◌, zero, suc, List, [], ◌∷◌, ◌++◌, length, map, get_or, refl, sym, ap, subst, ◌∙◌, arith, length-append}
+use Rattle.std.proofs.Common.{◌≡◌, ℕ, Bool, true, false, cond, ◌&&◌, ◌||◌, ◌+◌, ◌^◌, ◌≤◌, ◌<◌, zero, suc, List, [], ◌∷◌, ◌++◌, length, map, get_or, refl, sym, ◌∙◌, arith, length-append}
 use Rattle.std.specs.Prelude.{All, Option, Some, None, IfSome, is_some, ◌==◌, nat_le, nat_lt, drop, fold, slice_index, sum_by, replicate}
 use Rattle.std.specs.List.{AllByRecursion}
 use Rattle.std.specs.List.Sorted.{IsStrictlySortedBy}
-use Rattle.std.specs.Map.{keys_of, lookup, remove_entry}
+use Rattle.std.specs.Map.{lookup, remove_entry}
 use Rattle.std.specs.BTreeMap.{insert_entry, is_at}
 use Rattle.std.specs.Cmp.{IsTotalOrder, nat_cmp_total, then_total, on_total}
 use Rattle.std.proofs.lemmas.Bool.Decides.{nat_tests}
@@ -17,29 +17,26 @@ use Rattle.ospf_wire.specs.declared.lsa.Lsa.{Lsa}
 use Rattle.ospf_wire.specs.declared.packet.Body.{Body}
 use Rattle.ospf_wire.specs.declared.packet.Body.TheVariants as body
 use Rattle.ospf_wire.specs.declared.packet.Packet.{Packet}
-use Rattle.ospf_wire.specs.Packets.{HaveLengths, IsEncodable, body_len}
+use Rattle.ospf_wire.specs.Packets.{IsEncodable}
 use Rattle.ospf_wire.specs.Reading.{packet_at}
-use Rattle.ospf_wire.specs.RouterLsas.{router_body_bytes}
 use Rattle.ospf_wire.proofs.RouterLsaLaws.{length-router_body_bytes}
 use Rattle.ospf_wire.proofs.GrammarLaws.{is_encodable}
 use Rattle.ospf_lsdb.specs.declared.key.LsaKey.{LsaKey}
 use Rattle.ospf_lsdb.specs.declared.kept.Kept.{Kept}
 use Rattle.ospf_lsdb.specs.Keys.{key_cmp, own_key}
 use Rattle.ospf_lsdb.specs.Kept.{fresh}
-use Rattle.ospf_lsdb.specs.Database.{Database, gone, kept_at, originated, own_lsa, seq_after, with_kept, with_own, without}
+use Rattle.ospf_lsdb.specs.Database.{Database, gone, kept_at, own_lsa, seq_after, with_kept, with_own, without}
 use Rattle.ospf_flood.specs.Lists.{OnPorts, off, off_all}
 use Rattle.ospf_flood.proofs.ListLaws.{key_cmp_total}
 use Rattle.ospf_router.specs.declared.router.Router.{Router}
-use Rattle.ospf_router.specs.declared.interfaces.Port.{Port}
 use Rattle.ospf_router.specs.Commands.{commanded, is_removal, is_setting}
-use Rattle.ospf_router.specs.Interfaces.{AtPorts, full_mask, has_port, is_listed, lowered, opening_port, opening_ports}
+use Rattle.ospf_router.specs.Interfaces.{AtPorts, full_mask, has_port, is_listed, lowered, opening_port}
 use Rattle.ospf_router.specs.Origination.{advertised, finished, has_next, is_outdated, links_from, may_originate, removed, removed_one, renewed, stub_of, wanted_body, wanted_links}
 use Rattle.ospf_router.specs.Prefixes.{Network, Networks, has_room, is_network, network_cmp, with_network, without_network}
 use Rattle.ospf_router.specs.Sending.{flooded_on}
 use Rattle.ospf_router.specs.Sound.{HasBytes, IsSoundDatabase, IsSoundEntry, IsSoundList, IsSoundNetworks, IsSoundState, most, ospf_run}
-use Rattle.ospf_router.specs.State.{OspfState, Prefix, id_of, opening, opening_prefixes, router_of, state_of, with_prefix}
+use Rattle.ospf_router.specs.State.{OspfState, Prefix, id_of, opening, opening_prefixes, router_of, with_prefix}
 use Rattle.ospf_router.specs.Step.{body_taken, handled, is_from_full, is_passed_over, message, next, ospf_after, packet_taken, port_down, stepped}
-use Rattle.ospf_router.specs.Hellos.{greeted_by}
 use Rattle.ospf_router.specs.Receiving.{updated}
 use Rattle.ospf_router.specs.Acknowledging.{acked}
 use Rattle.ospf_router.specs.Updates.{is_sendable}
@@ -47,7 +44,7 @@ use Rattle.ospf_router.proofs.Choice.{choose, folded}
 use Rattle.ospf_router.proofs.LinkLaws.{few_links}
 use Rattle.ospf_router.proofs.PrefixLaws.{room_left}
 use Rattle.ospf_router.proofs.Rising.{finds-insert, finds-new, length-insert, length-remove, one, rises-insert, rises-remove}
-use Rattle.ospf_router.proofs.Database.{Has, empty_list, lists_left, lists_more, off_lists, sound-with, sound-without}
+use Rattle.ospf_router.proofs.Database.{empty_list, lists_left, lists_more, off_lists, sound-with, sound-without}
 use Rattle.ospf_router.proofs.Routers.{IsSoundRouter, at-lowered, at_of, sound-acked, sound-at, sound-flooded_on, sound-greeted_by, sound-ticked, sound-updated}
 
 -- ---- the own networks

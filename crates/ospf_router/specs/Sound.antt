@@ -1,5 +1,5 @@
 -- What holds of every state that a router reaches. The law is `sound_states` of src/laws.rt.
-use Rattle.std.specs.Prelude.{◌≡◌, ◌≤◌, ◌<◌, ◌^◌, ◌+◌, ℕ, ⊤, Bool, true, if◌then◌else◌, List, [], ◌∷◌, length, All, IfSome, Option, is_some}
+use Rattle.std.specs.Prelude.{◌≡◌, ◌≤◌, ◌<◌, ◌^◌, ◌+◌, ℕ, ⊤, true, if◌then◌else◌, List, [], ◌∷◌, length, All, IfSome, Option, is_some}
 use Rattle.std.specs.List.{AllByRecursion}
 use Rattle.std.specs.List.Sorted.{IsStrictlySortedBy}
 use Rattle.std.specs.Map.{keys_of}
