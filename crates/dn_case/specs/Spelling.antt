@@ -75,8 +75,6 @@ IsSpellable (External group name (Down port)) = IsSmall group × IsTrue (is_name
 IsSpellable (External group name (Up port)) = IsSmall group × IsTrue (is_name name) × IsSmall port
 IsSpellable End = Unit {0}
 
--- ---- a case
-
 -- no number of the line is beyond u64
 abbrev pub IsWithin : Line → Type 0
 IsWithin (Version n) = IsSmall n
@@ -91,6 +89,8 @@ IsWithin (External group name (Cmd hex)) = IsSmall group
 IsWithin (External group name (Down port)) = IsSmall group × IsSmall port
 IsWithin (External group name (Up port)) = IsSmall group × IsSmall port
 IsWithin End = Unit {0}
+
+-- ---- a case
 
 abbrev pub router_line : RouterDef → Line
 router_line r = Router r.name r.kind

@@ -8,8 +8,8 @@ use dn_guest::{Bytes, NoMemory};
 use dn_text::push_decimal;
 use std::alloc::Global;
 
-/// How a command ended. The order of refusals is: words; reading; the case; rows. A write fault ends the
-/// command at once, and want of memory may come in the place of any other answer.
+/// How a command ended. The order of refusals is: words; reading; the case and the journal; rows. A write fault
+/// ends the command at once, and want of memory may come in the place of any other answer.
 #[derive(Clone, Copy, Debug)]
 pub enum Status {
     /// All was written.
@@ -18,7 +18,8 @@ pub enum Status {
     Differs(u64),
     /// The words are no command.
     Usage,
-    /// No case stands at the front of the input: the first bad line and its cause.
+    /// No case stands at the front of the input, or for `rerun` no journal behind it: the first bad line and
+    /// its cause.
     BadCase(CaseFault),
     /// The run has more rows than a trace shows, and all that it shows was written.
     Cut,
@@ -26,7 +27,7 @@ pub enum Status {
     ReadFault,
     /// The sink failed; a front of the text was written.
     WriteFault,
-    /// There was no memory; a front of the text was written.
+    /// There was no memory; a front of the text was written, or nothing.
     NoMemory,
     /// The source gave more than 16,777,216 bytes.
     TooBig,

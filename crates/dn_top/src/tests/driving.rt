@@ -86,6 +86,28 @@ fn a_trace_section_may_stand_before_the_journal(rt: HostRuntime) -> Result<(), F
     Ok(())
 }
 
+/// Journals of the case of two routers in which a message comes late, and the line that each is answered with.
+const LATE_MESSAGE: [(&[u8], &[u8]); 2] = [
+    (b"rollback b\nend journal 8\n", b"defined: open\n"),
+    (b"handle b\nend journal 8\n", b"defined: illegal step 8\n"),
+];
+
+#[test]
+fn a_router_takes_back_what_a_late_message_makes_wrong(rt: HostRuntime) -> Result<(), Fail> {
+    for (last, line) in LATE_MESSAGE {
+        let mut input = joined(
+            rt.alloc(),
+            TWO_ROUTERS,
+            b"journal\ninject @0 a cmd 41\nhandle b\nbeacon\nhandle b\nhandle a\nhandle a\ndeliver 0\n",
+        )?;
+        input.append(last)?;
+        let (status, sink) = plain_outcome(rt.alloc(), &["rerun"], input.as_slice())?;
+        assert_eq!(rt; status_line(rt.alloc(), &status)?.as_slice(), line);
+        assert!(rt; sink.as_slice().is_empty());
+    }
+    Ok(())
+}
+
 /// What `shake` writes of the case is what `lockstep` writes, and a journal; and `rerun` takes the journal.
 fn is_shaken(alloc: Global, case: &[u8], number: &str) -> Result<bool, NoMemory> {
     let (_, lockstep) = plain_outcome(alloc, &["lockstep"], case)?;
