@@ -1,5 +1,5 @@
 -- What image and show test of a state that is sound.
-use Rattle.std.proofs.Common.{◌≡◌, ◌&&◌, ◌+◌, ◌^◌, ◌<◌, ◌≤◌, ℕ, Bool, true, false, cond, List, length, min, refl, ap, arith}
+use Rattle.std.proofs.Common.{◌≡◌, ◌&&◌, ◌+◌, ◌^◌, ◌≤◌, ℕ, Bool, true, false, length, min, refl, ap, arith}
 use Rattle.std.specs.Prelude.{IfSome, Option, Some, None, ◌==◌, flat_map, nat_le, nat_lt}
 use Rattle.std.specs.List.{AllByRecursion}
 use Rattle.std.proofs.lemmas.Bool.Decides.{nat_tests}
@@ -10,7 +10,6 @@ use Rattle.ospf_lsdb.specs.Keys.{key_of}
 use Rattle.ospf_flood.specs.Lists.{OnPort}
 use Rattle.ospf_spf.specs.Graph.{graph_of}
 use Rattle.ospf_spf.specs.Table.{table_of}
-use Rattle.ospf_router.specs.Interfaces.{AtPorts}
 use Rattle.ospf_router.specs.Sound.{IsSoundEntry, IsSoundState}
 use Rattle.ospf_router.specs.State.{OspfState}
 use Rattle.ospf_router.proofs.Plain.{few_lsas, short_lists}
