@@ -303,6 +303,18 @@ const BAD_CASES: [(&[u8], &[u8]); 10] = [
     ),
 ];
 
+/// Wrong forms of the case of two routers: a line, what stands in its place, and what is answered.
+const WRONG_LINES: [(usize, &[u8], &[u8]); 4] = [
+    (2, b"period 0\n", b"defined: line 2: range\n"),
+    (
+        5,
+        b"router a flood\nrouter a flood\n",
+        b"defined: line 6: twice\n",
+    ),
+    (9, b"@3 a cmd 41\n", b"defined: line 10: order\n"),
+    (11, b"", b"defined: line 11: ended\n"),
+];
+
 /// Words of a command.
 fn words_of(alloc: Global, words: &[&str]) -> Result<Vec<String>, NoMemory> {
     let mut all = Vec::new(alloc);
@@ -346,6 +358,24 @@ fn joined(alloc: Global, case: &[u8], trace: &[u8]) -> Result<Bytes, NoMemory> {
     both.append(case)?;
     both.append(trace)?;
     Ok(both)
+}
+
+/// The case of two routers with this text in the place of the line of this number, from 1.
+fn with_line(alloc: Global, number: usize, text: &[u8]) -> Result<Bytes, NoMemory> {
+    let mut changed = Bytes::new(alloc);
+    for (place, line) in TWO_ROUTERS
+        .split_inclusive(|byte| *byte == b'\n')
+        .enumerate()
+    {
+        changed.append(if place + 1 == number { text } else { line })?;
+    }
+    Ok(changed)
+}
+
+/// Whether a line of the text begins so.
+fn has_line(text: &[u8], front: &[u8]) -> bool {
+    text.split(|byte| *byte == b'\n')
+        .any(|line| line.starts_with(front))
 }
 
 /// A case of 64 routers without links and 3,125 groups, whose run has 200,000 rows; `feed` is its feed.
@@ -439,6 +469,22 @@ fn check_tells_where_a_trace_differs(rt: HostRuntime) -> Result<(), Fail> {
 }
 
 #[test]
+fn check_tells_a_wrong_digit_of_the_first_row(rt: HostRuntime) -> Result<(), Fail> {
+    if let Some(rest) = TWO_ROUTERS_TRACE.strip_prefix(b"trace\n0") {
+        let trace = joined(rt.alloc(), b"trace\n1", rest)?;
+        let input = joined(rt.alloc(), TWO_ROUTERS, trace.as_slice())?;
+        let (status, _) = plain_outcome(rt.alloc(), &["check"], input.as_slice())?;
+        assert_eq!(rt;
+            status_line(rt.alloc(), &status)?.as_slice(),
+            b"defined: differs at 120\n".as_slice()
+        );
+        return Ok(());
+    }
+    assert!(rt; false);
+    Ok(())
+}
+
+#[test]
 fn other_words_are_no_command(rt: HostRuntime) -> Result<(), Fail> {
     for words in [&[][..], &["walk"][..], &["run", "run"][..]] {
         let (status, sink) = plain_outcome(rt.alloc(), words, TWO_ROUTERS)?;
@@ -479,6 +525,20 @@ fn a_bad_case_is_told_by_its_first_bad_line(rt: HostRuntime) -> Result<(), Fail>
 }
 
 #[test]
+fn wrong_forms_of_two_routers_are_refused(rt: HostRuntime) -> Result<(), Fail> {
+    for (number, text, line) in WRONG_LINES {
+        let input = with_line(rt.alloc(), number, text)?;
+        for word in ["run", "check", "lockstep"] {
+            let (status, sink) = plain_outcome(rt.alloc(), &[word], input.as_slice())?;
+            assert_eq!(rt; status_number(&status), 3);
+            assert_eq!(rt; status_line(rt.alloc(), &status)?.as_slice(), line);
+            assert!(rt; sink.as_slice().is_empty());
+        }
+    }
+    Ok(())
+}
+
+#[test]
 fn a_trace_has_at_most_200000_rows(rt: HostRuntime) -> Result<(), Fail> {
     for (feed, number, last) in [
         (&b""[..], 0, &b"\nend trace 200000\n"[..]),
@@ -488,6 +548,7 @@ fn a_trace_has_at_most_200000_rows(rt: HostRuntime) -> Result<(), Fail> {
         let (status, sink) = plain_outcome(rt.alloc(), &["run"], case.as_slice())?;
         assert_eq!(rt; status_number(&status), number);
         assert!(rt; sink.as_slice().ends_with(last));
+        assert_eq!(rt; has_line(sink.as_slice(), b"state "), number == 0);
         let (checked, _) = plain_outcome(rt.alloc(), &["check"], sink.as_slice())?;
         assert_eq!(rt; status_number(&checked), number);
     }
