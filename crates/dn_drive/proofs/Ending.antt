@@ -38,7 +38,7 @@ module _ {S : Type 0} (net : Network S) (feed : List External) where
   pub open_run : (f : Fabric S) (xs : List External) → IsOn net feed f xs → f.live.stopped ≡ false → IsOpenRun net feed f
   open_run f xs o r = record { rest = xs; fed = fed_is f xs o r }
 
-  no_more_above : (w : World) → can_commit net.header w ≡ false → is_lt (key_cmp w.boundary (horizon net.header w)) ≡ false
+  pub no_more_above : (w : World) → can_commit net.header w ≡ false → is_lt (key_cmp w.boundary (horizon net.header w)) ≡ false
   unfolding can_commit
   no_more_above w h = sym (turn key_cmp key_total w.boundary (horizon net.header w)) ∙ h
 

@@ -22,35 +22,35 @@ if_false false x y h = refl
 
 module _ {S : Type 0} (net : Network S) where
   -- one step of a replay
-  rerun_on : (w : World) (xs : List External) (n : ℕ) (s : Step) (ss : List Step) → is_allowed net w xs s ≡ true → is_cut_off net (after net w s) ≡ false → rerun net w xs n (s ∷ ss) ≡ rerun net (after net w s) (rest_after xs s) (suc n) ss
+  pub rerun_on : (w : World) (xs : List External) (n : ℕ) (s : Step) (ss : List Step) → is_allowed net w xs s ≡ true → is_cut_off net (after net w s) ≡ false → rerun net w xs n (s ∷ ss) ≡ rerun net (after net w s) (rest_after xs s) (suc n) ss
   unfolding rerun
   rerun_on w xs n s ss a c = if_true (is_allowed net w xs s) _ _ a ∙ if_false (is_cut_off net (after net w s)) _ _ c
 
-  rerun_cut : (w : World) (xs : List External) (n : ℕ) (s : Step) (ss : List Step) → is_allowed net w xs s ≡ true → is_cut_off net (after net w s) ≡ true → rerun net w xs n (s ∷ ss) ≡ Cut
+  pub rerun_cut : (w : World) (xs : List External) (n : ℕ) (s : Step) (ss : List Step) → is_allowed net w xs s ≡ true → is_cut_off net (after net w s) ≡ true → rerun net w xs n (s ∷ ss) ≡ Cut
   unfolding rerun
   rerun_cut w xs n s ss a c = if_true (is_allowed net w xs s) _ _ a ∙ if_true (is_cut_off net (after net w s)) _ _ c
 
-  rerun_no : (w : World) (xs : List External) (n : ℕ) (s : Step) (ss : List Step) → is_allowed net w xs s ≡ false → rerun net w xs n (s ∷ ss) ≡ Illegal (suc n)
+  pub rerun_no : (w : World) (xs : List External) (n : ℕ) (s : Step) (ss : List Step) → is_allowed net w xs s ≡ false → rerun net w xs n (s ∷ ss) ≡ Illegal (suc n)
   unfolding rerun
   rerun_no w xs n s ss a = if_false (is_allowed net w xs s) _ _ a
 
-  rerun_end : (w : World) (xs : List External) (n : ℕ) → rerun net w xs n [] ≡ end_of net.header w
+  pub rerun_end : (w : World) (xs : List External) (n : ℕ) → rerun net w xs n [] ≡ end_of net.header w
   unfolding rerun
   rerun_end w xs n = refl
 
-  front_on : (w : World) (xs : List External) (s : Step) (ss : List Step) → is_allowed net w xs s ≡ true → is_cut_off net (after net w s) ≡ false → legal_front net w xs (s ∷ ss) ≡ s ∷ legal_front net (after net w s) (rest_after xs s) ss
+  pub front_on : (w : World) (xs : List External) (s : Step) (ss : List Step) → is_allowed net w xs s ≡ true → is_cut_off net (after net w s) ≡ false → legal_front net w xs (s ∷ ss) ≡ s ∷ legal_front net (after net w s) (rest_after xs s) ss
   unfolding legal_front
   front_on w xs s ss a c = if_true (is_allowed net w xs s) _ _ a ∙ ap (λ l. s ∷ l) (if_false (is_cut_off net (after net w s)) _ _ c)
 
-  front_cut : (w : World) (xs : List External) (s : Step) (ss : List Step) → is_allowed net w xs s ≡ true → is_cut_off net (after net w s) ≡ true → legal_front net w xs (s ∷ ss) ≡ s ∷ []
+  pub front_cut : (w : World) (xs : List External) (s : Step) (ss : List Step) → is_allowed net w xs s ≡ true → is_cut_off net (after net w s) ≡ true → legal_front net w xs (s ∷ ss) ≡ s ∷ []
   unfolding legal_front
   front_cut w xs s ss a c = if_true (is_allowed net w xs s) _ _ a ∙ ap (λ l. s ∷ l) (if_true (is_cut_off net (after net w s)) _ _ c)
 
-  front_no : (w : World) (xs : List External) (s : Step) (ss : List Step) → is_allowed net w xs s ≡ false → legal_front net w xs (s ∷ ss) ≡ []
+  pub front_no : (w : World) (xs : List External) (s : Step) (ss : List Step) → is_allowed net w xs s ≡ false → legal_front net w xs (s ∷ ss) ≡ []
   unfolding legal_front
   front_no w xs s ss a = if_false (is_allowed net w xs s) _ _ a
 
-  front_end : (w : World) (xs : List External) → legal_front net w xs [] ≡ []
+  pub front_end : (w : World) (xs : List External) → legal_front net w xs [] ≡ []
   unfolding legal_front
   front_end w xs = refl
 

@@ -21,7 +21,7 @@ use Rattle.dn_world.specs.declared.step.Step.{Step}
 use Rattle.dn_world.specs.declared.step.Step.TheVariants.{Beacon, Inject, Close, Deliver, Handle, RollBack, Commit}
 use Rattle.dn_world.specs.World.{Part, World, part, opening}
 use Rattle.dn_world.specs.Steps.{is_enabled, beacon, inject, deliver, handle, roll_back, after}
-use Rattle.dn_world.specs.Runs.{run, StartsLater, Feeds, IsFedFrom}
+use Rattle.dn_world.specs.Runs.{injects, run, StartsLater, Feeds, IsFedFrom}
 use Rattle.dn_world.proofs.Balance.{both_true}
 use Rattle.dn_fabric.specs.Fabrics.{Fabric, IsReached, HasStepped, stepped}
 use Rattle.dn_drive.specs.Allowed.{is_same_external, starts_later, is_fed, rest_after}
@@ -69,6 +69,17 @@ feeds w xs (Deliver place) h = refl
 feeds w xs (Handle r) h = refl
 feeds w xs (RollBack r) h = refl
 feeds w xs Commit h = refl
+
+-- what a step injects stands before the rest after it
+pub injects_on : (w : World) (xs further : List External) (s : Step) (ss : List Step) → is_fed w.floor xs s ≡ true → injects ss ++ further ≡ rest_after xs s → injects (s ∷ ss) ++ further ≡ xs
+unfolding injects
+injects_on w xs further Beacon ss fe e = e
+injects_on w xs further (Inject x) ss fe e = ap (λ l. x ∷ l) e ∙ sym (feeds w xs (Inject x) fe)
+injects_on w xs further Close ss fe e = e
+injects_on w xs further (Deliver place) ss fe e = e
+injects_on w xs further (Handle r) ss fe e = e
+injects_on w xs further (RollBack r) ss fe e = e
+injects_on w xs further Commit ss fe e = e
 
 -- ---- the world and the rest of the feed go together
 
@@ -137,6 +148,17 @@ module _ {S : Type 0} (net : Network S) where
   goes_on feed w xs (Handle r) en fe g = goes_same net.header feed w (after net w (Handle r)) xs (handle_same w r (part w r) (part w r).todo) g
   goes_on feed w xs (RollBack r) en fe g = record { whole = g.whole; rules = g.rules; floor = g.floor; no_more = g.no_more }
   goes_on feed w xs Commit en fe g = record { whole = g.whole; rules = g.rules; floor = g.floor; no_more = g.no_more }
+
+  -- once the world is closed nothing is left
+  pub no_more_on : (w : World) (xs : List External) (s : Step) → is_enabled net w s ≡ true → is_fed w.floor xs s ≡ true → (w.closed ≡ true → xs ≡ []) → (after net w s).closed ≡ true → rest_after xs s ≡ []
+  unfolding after beacon inject roll_back
+  no_more_on w xs Beacon en fe none c = none c
+  no_more_on w xs (Inject x) en fe none c = absurd (let no : true ≡ false = sym c ∙ (may net w (Inject x) en).0 in cc)
+  no_more_on w xs Close en fe none c = (feeds w xs Close fe).0
+  no_more_on w xs (Deliver place) en fe none c = none (sym (deliver_same w place (slice_get w.flight place)).closed ∙ c)
+  no_more_on w xs (Handle r) en fe none c = none (sym (handle_same w r (part w r) (part w r).todo).closed ∙ c)
+  no_more_on w xs (RollBack r) en fe none c = none c
+  no_more_on w xs Commit en fe none c = none c
 
   fed_more : (w : World) (feed xs ys : List External) (js : List Step) (s : Step) → IsFedFrom net w feed js xs → is_enabled net (run net w js) s ≡ true → Feeds (run net w js) xs s ys → IsFedFrom net w feed (js ++ s ∷ []) ys
   unfolding IsFedFrom run

@@ -11,3 +11,4 @@ pub mod Ways
 pub mod Scheduling
 pub mod TestCases
 pub mod Cutting
+pub mod Journals

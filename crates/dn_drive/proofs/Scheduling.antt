@@ -134,12 +134,12 @@ module _ {S : Type 0} (net : Network S) where
   schedule_none w xs h zero e = refl
   schedule_none w xs h (suc n) e = none_chosen (choices net.header w xs) _ e _
 
-  schedule_zero : (w : World) (xs : List External) (h n : ℕ) → n ≡ 0 → schedule net w xs h n ≡ []
+  pub schedule_zero : (w : World) (xs : List External) (h n : ℕ) → n ≡ 0 → schedule net w xs h n ≡ []
   unfolding schedule
   schedule_zero w xs h zero e = refl
   schedule_zero w xs h (suc n) e = absurd (omega arith)
 
-  schedule_on : (w : World) (xs : List External) (h n m : ℕ) (s : Step) → n ≡ suc m → slice_get (choices net.header w xs) (drawn h % length (choices net.header w xs)) ≡ Some s → schedule net w xs h n ≡ s ∷ (if is_cut_off net (after net w s) then [] else schedule net (after net w s) (rest_after xs s) (drawn h) m)
+  pub schedule_on : (w : World) (xs : List External) (h n m : ℕ) (s : Step) → n ≡ suc m → slice_get (choices net.header w xs) (drawn h % length (choices net.header w xs)) ≡ Some s → schedule net w xs h n ≡ s ∷ (if is_cut_off net (after net w s) then [] else schedule net (after net w s) (rest_after xs s) (drawn h) m)
   unfolding schedule
   schedule_on w xs h n m s e at =
       ap (schedule net w xs h) e

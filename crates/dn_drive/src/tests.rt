@@ -339,7 +339,10 @@ fn a_schedule_of_few_steps(rt: HostRuntime) -> Result<(), Fail> {
 }
 
 #[test]
-fn the_law_holds_of_flooding_routers(rt: HostRuntime) -> Result<(), Fail> {
+fn the_laws_hold_of_flooding_routers(rt: HostRuntime) -> Result<(), Fail> {
+    laws::whole_journals::<Flood>();
+    laws::taken_steps::<Flood>();
+    laws::schedules_are_taken::<Flood>();
     laws::only_a_commit_cuts::<Flood>();
     Ok(())
 }

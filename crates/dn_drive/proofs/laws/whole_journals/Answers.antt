@@ -1,0 +1,14 @@
+use Rattle.dn_drive.proofs.Journals.{whole_legal, whole_all, whole_quiet, whole_committed}
+use Rattle.dn_drive.proofs.laws.whole_journals.Goals as goal
+
+pub returns-clause-legal : goal.returns-clause-legal
+returns-clause-legal g c = λ net feed steps is. whole_legal net feed steps is
+
+pub returns-clause-all : goal.returns-clause-all
+returns-clause-all g c = λ net feed steps is. whole_all net feed steps is
+
+pub returns-clause-quiet : goal.returns-clause-quiet
+returns-clause-quiet g c = λ net feed steps is. whole_quiet net feed steps is
+
+pub returns-clause-committed : goal.returns-clause-committed
+returns-clause-committed g c = λ net feed steps t is. whole_committed net feed steps is t
