@@ -4,5 +4,6 @@ pub mod Completing
 pub mod Legal
 pub mod Shown
 pub mod Places
+pub mod Ends
 pub mod DrivesAnswering
 pub mod DrivesCompleting

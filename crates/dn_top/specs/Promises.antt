@@ -3,9 +3,10 @@ use Rattle.std.specs.Prelude.{◌≡◌, ◌⊎◌, ℕ, ◌+◌, ◌≤◌, ◌
 use Rattle.dn_io.specs.Streams.{behind, PutsFront}
 use Rattle.dn_model.specs.Cases.{Heading, Recording}
 use Rattle.dn_model.specs.Network.{Network, routers}
-use Rattle.dn_model.specs.Settled.{is_cut}
+use Rattle.dn_model.specs.Settled.{IsPrefixOf, is_cut}
 use Rattle.dn_world.specs.declared.step.Step.{Step}
-use Rattle.dn_world.specs.World.{opening}
+use Rattle.dn_world.specs.World.{horizon, is_quiet, opening}
+use Rattle.dn_world.specs.Runs.{IsLegalOf, injects, is_cut_off, world}
 use Rattle.dn_text.specs.Lines.{lines}
 use Rattle.dn_case.specs.declared.cause.Cause.TheVariants as cause
 use Rattle.dn_case.specs.declared.cause.CaseFault.{CaseFault}
@@ -16,7 +17,7 @@ use Rattle.dn_journal.specs.Spelling.{journal_text}
 use Rattle.dn_journal.specs.Reading.{IsJournal, IsNoJournal, IsFirstBad as IsFirstBadStep}
 use Rattle.dn_drive.specs.declared.ended.Ended.{Ended}
 use Rattle.dn_drive.specs.declared.ended.Ended.TheVariants as ended
-use Rattle.dn_drive.specs.Allowed.{rerun}
+use Rattle.dn_drive.specs.Allowed.{legal_front, rerun}
 use Rattle.dn_drive.specs.Choices.{schedule}
 use Rattle.guest_any.specs.declared.any.AnyGuest.{AnyGuest}
 use Rattle.guest_any.specs.Any.{any}
@@ -126,6 +127,27 @@ has_trace ended.Cut = true
 has_trace (ended.Illegal n) = false
 has_trace ended.Open = false
 
+-- the steps are a legal run of the case that takes all of its feed, and ends quiet with the boundary at the horizon
+pub record EndsWhole (c : Recording) (steps : List Step) : Type 0 where
+  pub legal : IsLegalOf (network_of c.header) c.feed steps
+  pub all : injects steps ≡ c.feed
+  pub quiet : is_quiet (world (network_of c.header) steps) ≡ true
+  pub committed : (world (network_of c.header) steps).boundary ≡ horizon c.header (world (network_of c.header) steps)
+
+-- the steps are a legal run of the case that reaches a cut world: below its boundary are more rows than a trace shows
+pub record EndsCut (c : Recording) (steps : List Step) : Type 0 where
+  pub legal : IsLegalOf (network_of c.header) c.feed steps
+  pub cut : is_cut_off (network_of c.header) (world (network_of c.header) steps) ≡ true
+
+-- those of the steps that are taken: none behind the first that leaves a cut world
+abbrev pub taken_of : Recording → List Step → List Step
+taken_of c steps = legal_front (network_of c.header) (opening (routers (network_of c.header))) c.feed steps
+
+-- those that are taken are a front of the steps, and end so
+pub record IsCutOnTheWay (c : Recording) (steps : List Step) : Type 0 where
+  pub front : IsPrefixOf (taken_of c steps) steps
+  pub ends : EndsCut c (taken_of c steps)
+
 -- ---- journals
 
 -- where a journal begins behind a case of so many bytes: behind the trace section there, if there is one
@@ -167,9 +189,10 @@ pub record HasRerun (input : List ℕ) (e : Ended) : Type 0 where
   pub has : HasJournal input case size steps
   pub is : outcome_of case steps ≡ e
 
--- and the case was written with its trace, which is cut or whole
-pub record HasRewritten (input : List ℕ) (e : Ended) (cut : Bool) (old now : Option (List ℕ)) : Type 0 where
+-- and the steps end so, and the case was written with its trace, which is cut or whole
+pub record HasRewritten (input : List ℕ) (e : Ended) (Ends : Recording → List Step → Type 0) (cut : Bool) (old now : Option (List ℕ)) : Type 0 where
   pub comes : HasRerun input e
+  pub ends : Ends comes.case comes.steps
   pub is : is_cut_case comes.case ≡ cut
   pub text : now ≡ behind old (written comes.case)
 
@@ -195,9 +218,10 @@ pub record HasShaken (s : Schedule) (input : List ℕ) (e : Ended) : Type 0 wher
   pub has : HasCase input case size
   pub is : outcome_of case (steps_of case s) ≡ e
 
--- and the case was written with its trace, which is cut or whole, and the journal of those steps
-pub record HasShakenOut (s : Schedule) (input : List ℕ) (e : Ended) (cut : Bool) (old now : Option (List ℕ)) : Type 0 where
+-- and they end so, and the case was written with its trace, which is cut or whole, and the journal of those steps
+pub record HasShakenOut (s : Schedule) (input : List ℕ) (e : Ended) (Ends : Recording → List Step → Type 0) (cut : Bool) (old now : Option (List ℕ)) : Type 0 where
   pub shaking : HasShaken s input e
+  pub ends : Ends shaking.case (steps_of shaking.case s)
   pub is : is_cut_case shaking.case ≡ cut
   pub text : now ≡ behind old (shaken shaking.case (steps_of shaking.case s))
 
@@ -300,8 +324,8 @@ AnswersCheck status.Open input = ⊥
 
 -- of `rerun`
 abbrev pub AnswersRerun : Status → List ℕ → Option (List ℕ) → Option (List ℕ) → Type 0
-AnswersRerun status.Ok input old now = HasRewritten input ended.Whole false old now
-AnswersRerun status.Cut input old now = HasRewritten input ended.Cut true old now
+AnswersRerun status.Ok input old now = HasRewritten input ended.Whole EndsWhole false old now
+AnswersRerun status.Cut input old now = HasRewritten input ended.Cut IsCutOnTheWay true old now
 AnswersRerun (status.Illegal number) input old now = HasRerun input (ended.Illegal number) × (now ≡ old)
 AnswersRerun status.Open input old now = HasRerun input ended.Open × (now ≡ old)
 AnswersRerun (status.BadCase fault) input old now = (IsBadCase input fault ⊎ IsBadJournal input fault) × (now ≡ old)
@@ -314,8 +338,8 @@ AnswersRerun status.Usage input old now = ⊥
 
 -- of `shake`
 abbrev pub AnswersShake : Schedule → Status → List ℕ → Option (List ℕ) → Option (List ℕ) → Type 0
-AnswersShake s status.Ok input old now = HasShakenOut s input ended.Whole false old now
-AnswersShake s status.Cut input old now = HasShakenOut s input ended.Cut true old now
+AnswersShake s status.Ok input old now = HasShakenOut s input ended.Whole EndsWhole false old now
+AnswersShake s status.Cut input old now = HasShakenOut s input ended.Cut EndsCut true old now
 AnswersShake s status.Open input old now = HasShaken s input ended.Open × (now ≡ old)
 AnswersShake s (status.BadCase fault) input old now = IsBadCase input fault × (now ≡ old)
 AnswersShake s status.TooBig input old now = (input_limit < length input) × (now ≡ old)

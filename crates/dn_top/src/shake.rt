@@ -87,14 +87,15 @@ fn scheduled(
 /// Takes the steps, and writes what they come to.
 fn shake_steps<K: Sink>(alloc: Global, schedule: Schedule, case: &Case, sink: &mut K) -> Status
     ensures answers { Drives case.now (outcome_of case.now (steps_of case.now schedule)) (shaken case.now (steps_of case.now schedule)) result (K.holds sink.old) (K.holds sink.new) }
+    ensures rules { IsRecording case.now }
     ensures legal { is_illegal result ≡ false }
     ensures fault { result ≡ Status.WriteFault → Rose (K.faults sink.old) (K.faults sink.new) }
     ensures later { K.faults sink.old ≤ K.faults sink.new }
 {
+    let feed = case.feed.as_slice();
     let Ok(mut fabric) = fabric_of(alloc, case) else {
         return Status::NoMemory;
     };
-    let feed = case.feed.as_slice();
     match scheduled(alloc, case, feed, schedule, &mut fabric) {
         Ok(ended) => write_shake(alloc, case, &fabric, ended, sink),
         Err(_) => Status::NoMemory,

@@ -13,7 +13,8 @@ returns-in-Ok-clause-answers g c =
     let steps = c.as_slice.result.now in
     let there : IsJournal case.header (journal_lines input c.args.size) c.in-Ok.steps.items = subst (λ (x : Recording). IsJournal x.header (journal_lines input c.args.size) c.in-Ok.steps.items) c.case.view_is c.in-Ok.ensures.found in
     let found : IsJournal case.header (journal_lines input c.args.size) steps = subst (λ (ss : List Step). IsJournal case.header (journal_lines input c.args.size) ss) (sym c.as_slice.ensures.value) there in
-    case_rerun input case c.args.size steps c.rerun_steps.result (g.K.Sink.holds c.args.sink.now) (g.K.Sink.holds c.rerun_steps.new.sink) (record { has = c.requires.has; journal = found }) c.rerun_steps.ensures.answers
+    let rules : IsRecording case = subst (λ (x : Recording). IsRecording x) c.case.view_is c.case.invariant in
+    case_rerun input case c.args.size steps c.rerun_steps.result (g.K.Sink.holds c.args.sink.now) (g.K.Sink.holds c.rerun_steps.new.sink) rules (record { has = c.requires.has; journal = found }) c.rerun_steps.ensures.answers
 
 pub returns-in-Ok-clause-one : goal.returns-in-Ok-clause-one
 returns-in-Ok-clause-one g c =
