@@ -1,24 +1,14 @@
 -- A line that is read as an external is spelled so, and the external meets the rules of the header.
-use Rattle.std.proofs.Common.{Bor, ◌≡◌, ◌⊎◌, inl, inr, ℕ, ◌-◌, ◌<◌, ◌≤◌, ◌^◌, Bool, true, false, cond, not, ◌&&◌, nat_eq, eqb, List, [], ◌∷◌, ◌++◌, length, take, drop, Option, Some, None, unwrap_or, Result, Ok, Err, refl, sym, ap, subst, ◌∙◌, arith, codes}
-use Rattle.std.specs.List.{join_with_byte}
-use Rattle.std.specs.Option.{option_map}
-use Rattle.std.specs.Cmp.Lexicographic.{pointwise, bytes_decides}
-use Rattle.std.proofs.lemmas.Bool.{eqb-true}
-use Rattle.std.proofs.lemmas.List.{take-append-drop}
-use Rattle.std.proofs.lemmas.List.Splits.{join_with_byte-slice_split}
+use Rattle.std.proofs.Common.{Bor, ◌≡◌, ℕ, ◌<◌, ◌≤◌, ◌^◌, true, not, ◌&&◌, List, [], ◌∷◌, ◌++◌, length, Option, Some, None, unwrap_or, Result, Ok, Err, refl, sym, ap, subst, ◌∙◌, arith}
 use Rattle.dn_guest.specs.Hex.{hex}
 use Rattle.dn_model.specs.declared.link.Link.{Link as LinkDef}
 use Rattle.dn_model.specs.declared.feed.External.{External as ExternalDef}
-use Rattle.dn_model.specs.Names.{is_name}
 use Rattle.dn_model.specs.Routers.{number_of, name_at}
 use Rattle.dn_model.specs.Links.{ports_of}
 use Rattle.dn_model.specs.Cases.{Heading, IsHeading, IsExternal, AreLinks}
 use Rattle.dn_text.specs.declared.decimals.Number.{Number}
 use Rattle.dn_text.specs.declared.decimals.Number.TheVariants.{Is, Beyond}
-use Rattle.dn_text.specs.Decimals.{numeral_of, within}
-use Rattle.dn_text.specs.Hexadecimals.{is_hex, unhex}
-use Rattle.dn_text.specs.Lines.{parts}
-use Rattle.dn_text.proofs.DecimalLaws.{text_is}
+use Rattle.dn_text.specs.Hexadecimals.{unhex}
 use Rattle.dn_text.proofs.HexadecimalLaws.{of_hex}
 use Rattle.dn_case.specs.declared.shape.Asked.{Asked}
 use Rattle.dn_case.specs.declared.shape.Shape.{Shape}
@@ -27,7 +17,7 @@ use Rattle.dn_case.specs.declared.standing.Standing.{Standing}
 use Rattle.dn_case.specs.declared.cause.Cause.{Cause}
 use Rattle.dn_case.specs.declared.cause.Cause.TheVariants as cause
 use Rattle.dn_case.specs.declared.place.Place.TheVariants as place
-use Rattle.dn_case.specs.Shapes.{line, Ask, Cmd, Down, Up, Line, Version, Period, Groups, Seed, Router, Link, Prefix, Feed, External, End, ◌>>=◌, is_word, name_of, kind_of, net_of, one_field, two_fields, three_fields, four_fields, five_fields, group_of, ask_of, line_of_fields, before_newline, line_of}
+use Rattle.dn_case.specs.Shapes.{line, Ask, Cmd, Down, Up, Line, External, before_newline, line_of}
 use Rattle.dn_case.specs.Standings.{below, value, is_known, ask_fits, number_at, input_of, last_group, first_of, table, after, taken}
 use Rattle.dn_case.specs.Spelling.{IsSmall, IsWithin, spelled, asked_by, external_line}
 use Rattle.dn_case.specs.Takings.{with_external}

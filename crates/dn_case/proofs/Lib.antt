@@ -20,3 +20,4 @@ pub mod CaseAgain
 pub mod Fronts
 pub mod TraceSectionLaws
 pub mod OneSpelling
+pub mod Together

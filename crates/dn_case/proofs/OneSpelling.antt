@@ -11,9 +11,8 @@ use Rattle.dn_model.specs.declared.router.RouterDef.{RouterDef}
 use Rattle.dn_model.specs.declared.router.Kind.{Kind}
 use Rattle.dn_model.specs.declared.router.Prefix.{Prefix as PrefixDef}
 use Rattle.dn_model.specs.declared.link.Link.{Link as LinkDef}
-use Rattle.dn_model.specs.declared.feed.External.{External as ExternalDef}
 use Rattle.dn_model.specs.Routers.{number_of, name_at}
-use Rattle.dn_model.specs.Cases.{Recording, IsRecording}
+use Rattle.dn_model.specs.Cases.{Recording}
 use Rattle.dn_text.specs.declared.decimals.Number.{Number}
 use Rattle.dn_text.specs.declared.decimals.Number.TheVariants.{Is, Beyond}
 use Rattle.dn_case.specs.declared.shape.Net.{Net}
@@ -99,28 +98,28 @@ is_net net fits =
 
 -- ---- the lines so far, without the prefix lines
 
-abbrev number_lines_at : Place → Recording → List Line
+abbrev pub number_lines_at : Place → Recording → List Line
 number_lines_at place.Start c = []
 number_lines_at place.Version c = Version (Is 1) ∷ []
 number_lines_at place.Period c = Version (Is 1) ∷ Period (Is c.header.period) ∷ []
 number_lines_at place.Groups c = Version (Is 1) ∷ Period (Is c.header.period) ∷ Groups (Is c.header.groups) ∷ []
 number_lines_at _ c = Version (Is 1) ∷ Period (Is c.header.period) ∷ Groups (Is c.header.groups) ∷ Seed (Is c.header.seed) ∷ []
 
-abbrev feed_lines_at : Place → Recording → List Line
+abbrev pub feed_lines_at : Place → Recording → List Line
 feed_lines_at place.Feed c = Feed ∷ map (external_line c.header.routers) c.feed
 feed_lines_at place.External c = Feed ∷ map (external_line c.header.routers) c.feed
 feed_lines_at place.End c = Feed ∷ (map (external_line c.header.routers) c.feed ++ End ∷ [])
 feed_lines_at _ c = []
 
 -- the lines of so much of a case, up to a place
-abbrev plain : Place → Recording → List Line
+abbrev pub plain : Place → Recording → List Line
 plain p c = number_lines_at p c ++ (map router_line c.header.routers ++ (map (link_line c.header.routers) c.header.links ++ feed_lines_at p c))
 
-abbrev plain_of : Standing → List Line
+abbrev pub plain_of : Standing → List Line
 plain_of s = plain s.place (case_of s)
 
 -- the line, where it isn't a prefix line
-abbrev kept : Line → List Line
+abbrev pub kept : Line → List Line
 kept (Prefix name net cost) = []
 kept l = l ∷ []
 
@@ -176,9 +175,9 @@ seed_plain s n m is bare =
 -- ---- behind the numbers
 
 -- the four numbers stand, and no line of the feed
-record IsHead (p : Place) : Type 0 where
-  numbers : (c : Recording) → number_lines_at p c ≡ number_lines_at place.Seed c
-  none : (c : Recording) → feed_lines_at p c ≡ []
+pub record IsHead (p : Place) : Type 0 where
+  pub numbers : (c : Recording) → number_lines_at p c ≡ number_lines_at place.Seed c
+  pub none : (c : Recording) → feed_lines_at p c ≡ []
 
 head_router : (p : Place) → may_follow p place.Router ≡ true → IsHead p
 unfolding may_follow
@@ -192,14 +191,14 @@ head_link place.Router m = record { numbers = λ c. refl; none = λ c. refl }
 head_link place.Link m = record { numbers = λ c. refl; none = λ c. refl }
 head_link _ m = absurd cc
 
-head_prefix : (p : Place) → may_follow p place.Prefix ≡ true → IsHead p
+pub head_prefix : (p : Place) → may_follow p place.Prefix ≡ true → IsHead p
 unfolding may_follow
 head_prefix place.Router m = record { numbers = λ c. refl; none = λ c. refl }
 head_prefix place.Link m = record { numbers = λ c. refl; none = λ c. refl }
 head_prefix place.Prefix m = record { numbers = λ c. refl; none = λ c. refl }
 head_prefix _ m = absurd cc
 
-head_feed : (p : Place) → may_follow p place.Feed ≡ true → IsHead p
+pub head_feed : (p : Place) → may_follow p place.Feed ≡ true → IsHead p
 unfolding may_follow
 head_feed place.Router m = record { numbers = λ c. refl; none = λ c. refl }
 head_feed place.Link m = record { numbers = λ c. refl; none = λ c. refl }
@@ -219,7 +218,7 @@ no_links_yet place.Seed c m h = h.0.links
 no_links_yet place.Router c m h = h.1
 no_links_yet _ c m h = absurd cc
 
-no_feed_yet : (p : Place) (c : Recording) → may_follow p place.Feed ≡ true → Sound p c → c.feed ≡ []
+pub no_feed_yet : (p : Place) (c : Recording) → may_follow p place.Feed ≡ true → Sound p c → c.feed ≡ []
 unfolding may_follow
 no_feed_yet place.Router c m h = h.2
 no_feed_yet place.Link c m h = h.1
@@ -268,17 +267,17 @@ feed_plain s m h =
 
 -- ---- behind the line of the feed
 
-record IsFed (p : Place) : Type 0 where
-  numbers : (c : Recording) → number_lines_at p c ≡ number_lines_at place.Seed c
-  lines : (c : Recording) → feed_lines_at p c ≡ feed_lines_at place.Feed c
+pub record IsFed (p : Place) : Type 0 where
+  pub numbers : (c : Recording) → number_lines_at p c ≡ number_lines_at place.Seed c
+  pub lines : (c : Recording) → feed_lines_at p c ≡ feed_lines_at place.Feed c
 
-fed_external : (p : Place) → may_follow p place.External ≡ true → IsFed p
+pub fed_external : (p : Place) → may_follow p place.External ≡ true → IsFed p
 unfolding may_follow
 fed_external place.Feed m = record { numbers = λ c. refl; lines = λ c. refl }
 fed_external place.External m = record { numbers = λ c. refl; lines = λ c. refl }
 fed_external _ m = absurd cc
 
-fed_end : (p : Place) → may_follow p place.End ≡ true → IsFed p
+pub fed_end : (p : Place) → may_follow p place.End ≡ true → IsFed p
 unfolding may_follow
 fed_end place.Feed m = record { numbers = λ c. refl; lines = λ c. refl }
 fed_end place.External m = record { numbers = λ c. refl; lines = λ c. refl }
@@ -310,12 +309,12 @@ end_plain s m =
 -- ---- the prefix lines so far
 
 -- the prefix lines of the router of a name
-abbrev owned : List RouterDef → List ℕ → List Line
+abbrev pub owned : List RouterDef → List ℕ → List Line
 owned [] name = []
 owned (r ∷ rs) name = cond (is_word name r.name) (prefix_lines r) (owned rs name)
 
 -- the line, where it is a prefix line of that name
-abbrev own : List ℕ → Line → List Line
+abbrev pub own : List ℕ → Line → List Line
 own name (Prefix n net cost) = cond (is_word name n) (Prefix n net cost ∷ []) []
 own name _ = []
 
@@ -376,7 +375,7 @@ owned_next rs i n p name is =
 
 -- ---- a prefix line changes none of the other lines
 
-routers_same : (rs : List RouterDef) (i : ℕ) (p : PrefixDef) → map router_line (with_prefix rs i p) ≡ map router_line rs
+pub routers_same : (rs : List RouterDef) (i : ℕ) (p : PrefixDef) → map router_line (with_prefix rs i p) ≡ map router_line rs
 unfolding with_prefix
 routers_same [] i p = refl
 routers_same (r ∷ rs) zero p = refl
@@ -390,7 +389,7 @@ name_same (r ∷ rs) zero p (suc j) = refl
 name_same (r ∷ rs) (suc i) p zero = refl
 name_same (r ∷ rs) (suc i) p (suc j) = name_same rs i p j
 
-links_same : (rs : List RouterDef) (i : ℕ) (p : PrefixDef) (links : List LinkDef) → map (link_line (with_prefix rs i p)) links ≡ map (link_line rs) links
+pub links_same : (rs : List RouterDef) (i : ℕ) (p : PrefixDef) (links : List LinkDef) → map (link_line (with_prefix rs i p)) links ≡ map (link_line rs) links
 links_same rs i p [] = refl
 links_same rs i p (l ∷ links) = rw (name_same rs i p l.a, name_same rs i p l.b, links_same rs i p links) refl
 
@@ -403,10 +402,10 @@ prefix_plain s name net cost m =
 
 -- ---- one line more
 
-record IsMore (s : Standing) (l : Line) : Type 0 where
-  within : IsWithin l
-  others : plain_of (after s l) ≡ plain_of s ++ kept l
-  prefixes : (name : List ℕ) → owned (after s l).routers name ≡ owned s.routers name ++ own name l
+pub record IsMore (s : Standing) (l : Line) : Type 0 where
+  pub within : IsWithin l
+  pub others : plain_of (after s l) ≡ plain_of s ++ kept l
+  pub prefixes : (name : List ℕ) → owned (after s l).routers name ≡ owned s.routers name ++ own name l
 
 link_same : (a b e f : List ℕ) (c d g h : Number) → a ≡ e → b ≡ f → c ≡ g → d ≡ h → Link a b c d ≡ Link e f g h
 link_same a b e f c d g h p q r t = rw (p, q, r, t) refl
@@ -454,7 +453,7 @@ external_more s group name a m w free h =
       prefixes = λ q. sym (append-nil (owned s.routers q));
     }
 
-more : (s : Standing) (l : Line) → may_follow s.place (place_of l) ≡ true → IsWell l → first_of (table s l) ≡ None → Sound s.place (case_of s) → IsMore s l
+pub more : (s : Standing) (l : Line) → may_follow s.place (place_of l) ≡ true → IsWell l → first_of (table s l) ≡ None → Sound s.place (case_of s) → IsMore s l
 more s (Version n) m w free h =
     let version = free_test (not (between 1 1 n)) cause.Version _ free in
     let range = held _ version.0 in

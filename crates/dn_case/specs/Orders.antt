@@ -1,6 +1,6 @@
 -- The prefix lines of a text, and its other lines.
-use Rattle.std.specs.Prelude.{ℕ, List, Bool, false, not, Option, Some, None, is_some}
-use Rattle.std.specs.List.{filter}
+use Rattle.std.specs.Prelude.{◌≡◌, ◌++◌, ℕ, List, Bool, false, not, Option, Some, None, is_some}
+use Rattle.std.specs.List.{filter, AllByRecursion}
 use Rattle.std.specs.Option.{option_map_or}
 use Rattle.dn_case.specs.Shapes.{Line, Prefix, is_word, line_of}
 
@@ -22,3 +22,17 @@ other_lines ls = filter is_other ls
 -- the prefix lines of a router, in their order
 abbrev pub prefix_lines_of : List ℕ → List (List ℕ) → List (List ℕ)
 prefix_lines_of name ls = filter (is_prefix_of name) ls
+
+-- no other lines
+abbrev pub ArePrefixLines : List (List ℕ) → Type 0
+ArePrefixLines ls = AllByRecursion (λ text. is_other text ≡ false) ls
+
+-- The two lists are one list but for the prefix lines, which stand together at one place of it.
+pub record StandTogether (ls ms : List (List ℕ)) : Type 0 where
+  pub front : List (List ℕ)
+  pub first : List (List ℕ)
+  pub second : List (List ℕ)
+  pub back : List (List ℕ)
+  pub ls_are : ls ≡ front ++ (first ++ back)
+  pub ms_are : ms ≡ front ++ (second ++ back)
+  pub prefixes : ArePrefixLines first × ArePrefixLines second

@@ -7,7 +7,7 @@ ghost use Rattle.dn_model.specs.Cases.{Heading, IsHeading, Recording, IsRecordin
 ghost use Rattle.dn_case.specs.declared.cause.Cause.{Cause};
 ghost use Rattle.dn_case.specs.Shapes.{Line, line_of};
 ghost use Rattle.dn_case.specs.Spelling.{IsSpellable, IsWithin, spelled, lines_of, case_text};
-ghost use Rattle.dn_case.specs.Orders.{other_lines, prefix_lines_of};
+ghost use Rattle.dn_case.specs.Orders.{other_lines, prefix_lines_of, StandTogether};
 ghost use Rattle.dn_case.specs.Externals.{IsExternalLine};
 ghost use Rattle.dn_case.specs.Reading.{IsCaseText, IsCaseFront, IsFirstBad};
 
@@ -47,6 +47,8 @@ pub fn a_case_has_one_spelling()
     ensures others { (ls ms : List (List ℕ)) (c : Recording) → IsCaseText ls c → IsCaseText ms c → other_lines ls ≡ other_lines ms }
     // They have the same prefix lines of each router, in their order.
     ensures prefixes { (ls ms : List (List ℕ)) (c : Recording) (name : List ℕ) → IsCaseText ls c → IsCaseText ms c → prefix_lines_of name ls ≡ prefix_lines_of name ms }
+    // The prefix lines stand together, at one place in both.
+    ensures places { (ls ms : List (List ℕ)) (c : Recording) → IsCaseText ls c → IsCaseText ms c → StandTogether ls ms }
     // A case without prefixes has one text.
     ensures without { (ls ms : List (List ℕ)) (c : Recording) → AllByRecursion (λ r. r.prefixes ≡ []) c.header.routers → IsCaseText ls c → IsCaseText ms c → ls ≡ ms }
 {}

@@ -1,6 +1,7 @@
 //! For each cause smallest texts, and for each pair of causes that can meet on one line which is told.
 
 use super::first_wrong;
+use crate::{CaseError, CaseFault, Cause};
 use std::test::Fail;
 
 const NUMBERS: &str = "defined 1\nperiod 10\ngroups 3\nseed 7\n";
@@ -122,8 +123,11 @@ prefix c 10.0.0.1/8 1|8 name
 prefix c 10.0.0.0/8 16|8 name
 prefix c 10.0.0.0/8 0|8 range
 prefix a 10.0.0.0/8 65536|8 range
+prefix a 256.0.0.0/8 1|8 range
 prefix a 10.0.256.1/8 1|8 range
+prefix c 10.0.0.256/8 1|8 range
 prefix a 10.0.0.0/33 1|8 range
+prefix c 10.0.0.0/33 1|8 range
 prefix a 10.0.0/8 1|8 syntax
 prefix a 10.0.0.0.0/8 1|8 syntax
 prefix a 10.0.0.0 1|8 syntax
@@ -243,5 +247,23 @@ end|9 syntax
     assert_eq!(rt; first_wrong(rt.alloc(), "", "", first)?.as_str(), "");
     assert_eq!(rt; first_wrong(rt.alloc(), HEAD, "", head)?.as_str(), "");
     assert_eq!(rt; first_wrong(rt.alloc(), FEED, "", feed)?.as_str(), "");
+    Ok(())
+}
+
+#[test]
+fn errors_say_their_cause(rt: HostRuntime) -> Result<(), Fail> {
+    let alloc = rt.alloc();
+    let fault = CaseError::Fault(CaseFault {
+        line: 7,
+        cause: Cause::Range,
+    });
+    assert_eq!(rt;
+        format!(in alloc; "{fault}")?.as_str(),
+        "no case text: line 7: Range"
+    );
+    assert_eq!(rt;
+        format!(in alloc; "{}", CaseError::NoMemory)?.as_str(),
+        "out of memory"
+    );
     Ok(())
 }

@@ -110,3 +110,33 @@ prefix s 32.0.0.0/8 1|40 ended
     assert_eq!(rt; routers.len(), 2);
     Ok(())
 }
+
+#[test]
+fn a_33rd_prefix_of_an_ospf_router_is_too_many(rt: HostRuntime) -> Result<(), Fail> {
+    let alloc = rt.alloc();
+    let mut text = String::from_str(
+        alloc,
+        "defined 1\nperiod 1\ngroups 1\nseed 0\nrouter o ospf\nrouter p ospf\n",
+    )?;
+    for i in 0..32u64 {
+        text.push_str(format!(in alloc; "prefix o {i}.0.0.0/8 65535\n")?.as_str())?;
+    }
+    let table = "prefix o 32.0.0.0/8 65535|39 many
+prefix o 31.0.0.0/8 1|39 twice
+prefix o 32.0.0.1/8 1|39 host
+prefix o 32.0.0.0/8 65536|39 range
+prefix p 32.0.0.0/8 16|40 ended
+";
+    assert_eq!(rt;
+        first_wrong(alloc, text.as_str(), "\n", table)?.as_str(),
+        ""
+    );
+    text.push_str("feed\nend\n")?;
+    let (case, _) = read_case(alloc, text.as_bytes())
+        .ok()
+        .ok_or("32 prefixes are a case")?;
+    if let Some(router) = case.header.routers.as_slice().first() {
+        assert_eq!(rt; router.prefixes.as_slice().len(), 32);
+    }
+    Ok(())
+}
