@@ -49,7 +49,7 @@ pub struct CaseFault {
 #[derive(Debug, Drop, Error)]
 pub enum CaseError {
     /// The text has a bad line.
-    #[error("no case text: line {}: {:?}", .0.line, .0.cause)]
+    #[error("line {}: {:?}", .0.line, .0.cause)]
     Fault(CaseFault),
     /// There was no memory for the case.
     #[error("out of memory")]

@@ -257,10 +257,7 @@ fn errors_say_their_cause(rt: HostRuntime) -> Result<(), Fail> {
         line: 7,
         cause: Cause::Range,
     });
-    assert_eq!(rt;
-        format!(in alloc; "{fault}")?.as_str(),
-        "no case text: line 7: Range"
-    );
+    assert_eq!(rt; format!(in alloc; "{fault}")?.as_str(), "line 7: Range");
     assert_eq!(rt;
         format!(in alloc; "{}", CaseError::NoMemory)?.as_str(),
         "out of memory"
