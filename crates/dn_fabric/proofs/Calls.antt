@@ -1,7 +1,8 @@
 -- What the calls of a fabric leave.
-use Rattle.std.proofs.Common.{◌≡◌, Bool, true, false, List, length, sym, ap, ◌∙◌, subst}
+use Rattle.std.proofs.Common.{◌≡◌, ℕ, zero, suc, ◌<◌, Bool, true, false, List, [], ◌∷◌, length, get_or, sym, ap, ◌∙◌, subst, arith}
 use Rattle.std.specs.Prelude.{slice_get, Result, Ok, Err, OnErr}
 use Rattle.std.specs.List.{AllByRecursion}
+use Rattle.std.proofs.lemmas.Bool.{false≢true}
 use Rattle.dn_guest.specs.Meaning.{Meaning}
 use Rattle.dn_model.specs.Cases.{Heading, IsHeading}
 use Rattle.dn_model.specs.Network.{Network}
@@ -19,6 +20,12 @@ use Rattle.dn_fabric.proofs.Stepping.{reached_after, reached_leased}
 abbrev pub with_live : {S : Type 0} → Fabric S → Live S → Fabric S
 with_live f l = record f { live = l }
 
+-- what stands in a list of tests at a place within it
+pub is_within : (xs : List Bool) (r : ℕ) → get_or xs r false ≡ true → r < length xs
+is_within [] r h = absurd (false≢true h)
+is_within (x ∷ xs) zero h = omega arith
+is_within (x ∷ xs) (suc r) h = let l = is_within xs r h in omega (arith, l)
+
 module _ {S : Type 0} (guests : Meaning S) where
   -- of each network of the fabric's header and openings
   abbrev pub OfEach : Fabric S → (Network S → Type 0) → Type 0
@@ -30,6 +37,10 @@ module _ {S : Type 0} (guests : Meaning S) where
 
   pub the_network : (f : Fabric S) → IsFabric guests f → (net : Network S) × IsNetworkOf net guests f.live.header f.live.openings
   the_network f holds = some_network guests f.live.header f.live.openings holds.rules holds.openings
+
+  -- a router that is leased is one of them
+  pub leased_inside : (f : Fabric S) → IsFabric guests f → (r : ℕ) → get_or f.leased r false ≡ true → r < length f.live.header.routers
+  leased_inside f holds r h = subst (λ n. r < n) holds.leases (is_within f.leased r h)
 
   -- what waits and what may still come from outside is past the boundary
   pub bound_past : (f : Fabric S) → IsFabric guests f → f.live.stopped ≡ false → IsPast f.live.world.boundary (floor_bound f.live.header f.live.world)

@@ -10,7 +10,7 @@ use Rattle.dn_model.specs.Network.{Network, Family, injected, is_at, routers, se
 use Rattle.dn_model.specs.Settled.{IsFeedOf, IsPrefixOf, IsSettled, IsSettledBelow, below, due, lockstep, rows, is_cut}
 use Rattle.dn_model.proofs.Rows.{joined_same}
 use Rattle.dn_model.proofs.Waves.{lockstep_settled, lockstep_settled_below, no_other_settled, no_other_settled_below}
-use Rattle.dn_world.specs.World.{dones, is_same, is_quiet}
+use Rattle.dn_world.specs.World.{part, dones, is_same, is_quiet}
 use Rattle.dn_world.specs.Runs.{Continues, IsPlayable, world, committed, is_cut_off}
 use Rattle.dn_world.proofs.Cases.{playable_from}
 use Rattle.dn_world.proofs.Sound.{IsSound, world_sound}
@@ -91,3 +91,8 @@ module _ {S : Type 0} (net : Network S) (f : Fabric S) (rules : IsHeading net.he
         rows = λ e. reached.rows ∙ quiet_committed net playable f.live.world sound quiet e;
         cut = λ e. reached.cut ∙ quiet_cut net playable f.live.world sound quiet e;
       }
+
+  -- a router's node then is the one after its lockstep list
+  pub node_at_rest : is_quiet f.live.world ≡ true → (r : ℕ) → r < length net.header.routers → state net r (part f.live.world r).done ≡ state net r (lockstep net f.live.world.accepted r)
+  unfolding routers
+  node_at_rest quiet r l = ap (state net r) (quiet_lockstep net playable f.live.world sound quiet r l)

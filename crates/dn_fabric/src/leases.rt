@@ -37,7 +37,6 @@ impl<G: Guest> Fabric<G> {
     /// same order now, its least event is handled. The caller knows that the router is leased.
     pub fn finish(&mut self, outcome: Outcome<G>) -> Result<Finished, NoMemory>
         requires running { self.old.live.stopped ≡ false }
-        requires inside { outcome.router < length self.old.live.header.routers }
         requires leased { get_or self.old.leased outcome.router false ≡ true }
         ensures ok { (net : Network G) → IsNetworkOf net G.meaning self.old.live.header self.old.live.openings → IfOk result (λ finished. HasFinished net self.old outcome finished self.new) }
         ensures err { OnErr result (HasStopped self.old self.new) }

@@ -3,7 +3,7 @@
 ghost use Rattle.std.specs.Prelude.{◌≡◌, ◌<◌, ◌≤◌, List, true, false, length, drop};
 ghost use Rattle.dn_model.specs.declared.feed.External.{External};
 ghost use Rattle.dn_model.specs.Network.{Network, state};
-ghost use Rattle.dn_model.specs.Settled.{IsFeedOf, is_cut};
+ghost use Rattle.dn_model.specs.Settled.{IsFeedOf, lockstep, is_cut};
 ghost use Rattle.dn_world.specs.World.{part, is_quiet};
 ghost use Rattle.dn_world.specs.Runs.{Continues, committed, is_cut_off};
 ghost use Rattle.dn_fabric.specs.Fabrics.{IsNetworkOf};
@@ -50,10 +50,11 @@ impl<G: Guest> Fabric<G> {
         are_quiet(self.world.routers())
     }
 
-    /// The router's node after all that it has handled.
+    /// The router's node after all that it has handled: in a quiet fabric the one after its whole lockstep list.
     pub fn node(&self, router: u16) -> &Node<G>
         requires { router < length self.now.live.header.routers }
-        ensures { (net : Network G) → IsNetworkOf net G.meaning self.now.live.header self.now.live.openings → result.now ≡ state net router (part self.now.live.world router).done }
+        ensures handled { (net : Network G) → IsNetworkOf net G.meaning self.now.live.header self.now.live.openings → result.now ≡ state net router (part self.now.live.world router).done }
+        ensures end { (net : Network G) → IsNetworkOf net G.meaning self.now.live.header self.now.live.openings → self.now.live.stopped ≡ false → is_quiet self.now.live.world ≡ true → result.now ≡ state net router (lockstep net self.now.live.world.accepted router) }
     {
         self.world.router(router).node()
     }

@@ -1,4 +1,4 @@
-use Rattle.std.proofs.Common.{◌≡◌, ◌<◌, ◌++◌, ◌∷◌, [], false, length, refl, sym, ap, ◌∙◌, subst, set}
+use Rattle.std.proofs.Common.{◌≡◌, ◌<◌, ◌++◌, ◌∷◌, [], true, false, length, get_or, refl, sym, ap, ◌∙◌, subst, set}
 use Rattle.std.specs.Prelude.{slice_set}
 use Rattle.dn_guest.specs.Meaning.{Meaning}
 use Rattle.dn_router.specs.Orders.{Task}
@@ -8,13 +8,18 @@ use Rattle.dn_fabric.specs.declared.answer.Finished.{Finished}
 use Rattle.dn_fabric.specs.declared.answer.Finished.TheVariants.{Applied, Stale}
 use Rattle.dn_fabric.specs.Fabrics.{Live, Fabric, HasStopped}
 use Rattle.dn_fabric.specs.Answers.{HasHandled, HasFinished}
-use Rattle.dn_fabric.proofs.Calls.{OfEach, the_network, halted_holds, on_err_all}
+use Rattle.dn_fabric.proofs.Calls.{OfEach, the_network, leased_inside, halted_holds, on_err_all}
 use Rattle.dn_fabric.proofs.Taken.{fab, finish_taken, stale_holds, half_taken}
 use Rattle.dn_fabric.proofs.fabric.Fabric.finish.Goals as goal
 
 -- what `apply` answered, by what it was
 handled_is : {S : Type 0} (guests : Meaning S) (f : Fabric S) (task : Task S) (found answer : Finished) (now : Live S) → found ≡ answer → OfEach guests f (λ net. HasHandled net f.live task found now) → OfEach guests f (λ net. HasHandled net f.live task answer now)
 handled_is guests f task found answer now is h net of = subst (λ a. HasHandled net f.live task a now) is (h net of)
+
+pub apply-requires-clause-inside : goal.apply-requires-clause-inside
+apply-requires-clause-inside g c κs within =
+    let f = fab c.self.inside.world c.self.inside.journal.items c.self.inside.leased.items in
+    leased_inside g.G.Guest.meaning f c.self.invariant c.args.outcome.router (subst (λ (b : Fabric g.row.G.Denot). get_or b.leased c.args.outcome.router false ≡ true) (sym c.self.view_is) c.requires.leased)
 
 pub invariant_of-self-in_err-note-in-Applied : goal.invariant_of-self-in_err-note-in-Applied
 invariant_of-self-in_err-note-in-Applied g c =
@@ -44,7 +49,7 @@ invariant_of-self-in-Applied g c =
     let running = ap (λ b. b.live.stopped) c.self.view_is ∙ c.requires.running in
     let handled = handled_is g.G.Guest.meaning f c.args.outcome c.in_ok-apply.field-0 Applied c.apply.new.self c.in-Applied.is c.in_ok-apply.ensures.ok in
     (finish_taken g.G.Guest.meaning f c.self.invariant running c.args.outcome.router c.note.new.world c.note.new.journal.items (slice_set c.self.inside.leased.items c.from.result false)
-    (subst (λ (b : Fabric g.row.G.Denot). c.args.outcome.router < length b.live.header.routers) (sym c.self.view_is) c.requires.inside)
+    (leased_inside g.G.Guest.meaning f c.self.invariant c.args.outcome.router (subst (λ (b : Fabric g.row.G.Denot). get_or b.leased c.args.outcome.router false ≡ true) (sym c.self.view_is) c.requires.leased))
     (let found = the_network g.G.Guest.meaning f c.self.invariant in (handled found.0 found.1).0.0)
     (ap (λ r. set c.self.inside.leased.items r false) (c.from.ensures ∙ c.router-router.ensures))
     (λ net of. c.in_ok-note-in-Applied.ensures.world ∙ (handled net of).1)
@@ -57,7 +62,7 @@ returns-in_ok-note-in-Applied-clause-ok g c =
     let handled = handled_is g.G.Guest.meaning f c.args.outcome c.in_ok-apply.field-0 Applied c.apply.new.self c.in-Applied.is c.in_ok-apply.ensures.ok in
     let now = fab c.note.new.world c.note.new.journal.items (slice_set c.self.inside.leased.items c.from.result false) in
     let done = finish_taken g.G.Guest.meaning f c.self.invariant running c.args.outcome.router c.note.new.world c.note.new.journal.items (slice_set c.self.inside.leased.items c.from.result false)
-    (subst (λ (b : Fabric g.row.G.Denot). c.args.outcome.router < length b.live.header.routers) (sym c.self.view_is) c.requires.inside)
+    (leased_inside g.G.Guest.meaning f c.self.invariant c.args.outcome.router (subst (λ (b : Fabric g.row.G.Denot). get_or b.leased c.args.outcome.router false ≡ true) (sym c.self.view_is) c.requires.leased))
     (let found = the_network g.G.Guest.meaning f c.self.invariant in (handled found.0 found.1).0.0)
     (ap (λ r. set c.self.inside.leased.items r false) (c.from.ensures ∙ c.router-router.ensures))
     (λ net of. c.in_ok-note-in-Applied.ensures.world ∙ (handled net of).1)
