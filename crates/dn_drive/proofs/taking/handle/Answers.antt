@@ -1,16 +1,9 @@
-use Rattle.std.proofs.Common.{◌<◌, false, length, get_or, sym, ap, ◌∙◌, subst}
+use Rattle.std.proofs.Common.{false, get_or, sym, ap, ◌∙◌, subst}
 use Rattle.dn_router.specs.Orders.{Task}
 use Rattle.dn_fabric.specs.Fabrics.{Fabric, IsNetworkOf}
 use Rattle.dn_fabric.specs.Answers.{HasFinished}
-use Rattle.dn_drive.proofs.Handling.{given_router, is_leased, is_handled}
+use Rattle.dn_drive.proofs.Handling.{is_leased, is_handled}
 use Rattle.dn_drive.proofs.taking.handle.Goals as goal
-
-pub finish-requires-clause-inside : goal.finish-requires-clause-inside
-finish-requires-clause-inside g c κs within =
-    let f = c.args.fabric.now in
-    let router = ap (λ t. t.router) c.in-Ok.ensures ∙ given_router g.G.Guest.meaning f c.requires.driven c.args.router c.in_ok-order.order c.in_ok-order.ensures.order in
-    subst (λ k. k < length c.lease.new.self.live.header.routers) (sym router)
-    (subst (λ (f : Fabric g.row.G.Denot). c.args.router < length f.live.header.routers) (sym c.in_ok-order.ensures.leased) c.requires.inside)
 
 pub finish-requires-clause-leased : goal.finish-requires-clause-leased
 finish-requires-clause-leased g c κs within =

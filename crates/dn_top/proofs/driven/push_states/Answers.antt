@@ -8,4 +8,4 @@ loop-router-init c = no_state c.args.case.now c.args.fabric.now c.args.routers.n
 pub loop-router-preserved : goal.loop-router-preserved
 loop-router-preserved c =
     state_after c.args.case.now c.args.fabric.now c.args.routers.now c.args.out.now c.loop-router.out c.push_state.new.out c.loop-router.router c.node.result.now c.loop-router.invariant
-    (c.node.ensures (network_of c.args.case.now.header) c.requires.of.network) c.in_ok-push_state.ensures.ok
+    (c.node.ensures.handled (network_of c.args.case.now.header) c.requires.of.network) c.in_ok-push_state.ensures.ok
