@@ -15,6 +15,7 @@
 //! | `feed.rt`, `case.rt` | what comes from outside; the whole case |
 //! | `emission.rt` | the messages that a step's outputs become |
 //! | `start.rt` | the node before the first event; the row limit |
+//! | `optional.rt` | a list to which an item is added, where there is one |
 //! | `laws.rt` | the laws of the model, for all networks and all runs |
 //!
 //! The one contract upwards: the order of events, `emitted`, and `laws::one_settled_family`: the

@@ -19,8 +19,9 @@
 //! | `step.rt`, `packet.rt` | `Step` and `Packet`, as code and definitions both have them |
 //! | `laws.rt` | the laws, for all networks and all legal runs |
 //!
-//! The one contract upwards: `laws::prefix`. Whatever takes a world by these steps alone, in any order and by
-//! any number of workers, has at each moment committed a prefix of the lockstep rows.
+//! The one contract upwards: the laws of legal runs, before all `laws::prefix` and `laws::unsent`. Whatever
+//! takes a world by these steps alone, in any order and by any number of workers, has at each moment committed
+//! a prefix of the lockstep rows, and no message of a committed row is ever unsent.
 //!
 //! `proofs/Computes.antt` has runs with rollbacks and unsends that the definitions alone compute, step by
 //! step. The crate has no code but the two types, so no edit of its code turns a meaning, and it has no
