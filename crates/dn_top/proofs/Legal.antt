@@ -1,8 +1,7 @@
 -- The steps of a legal run are steps that a journal of the header may have.
-use Rattle.std.proofs.Common.{◌≡◌, ℕ, suc, ◌+◌, ◌<◌, ◌≤◌, true, Option, Some, None, List, [], ◌∷◌, length, refl, arith}
-use Rattle.std.specs.Prelude.{IsTrue, slice_get}
+use Rattle.std.proofs.Common.{◌≡◌, ℕ, ◌<◌, ◌≤◌, true, Option, Some, None, List, [], ◌∷◌, refl, arith}
+use Rattle.std.specs.Prelude.{slice_get}
 use Rattle.std.specs.List.{AllByRecursion}
-use Rattle.dn_model.specs.Cases.{Heading}
 use Rattle.dn_model.specs.Network.{Network, routers}
 use Rattle.dn_model.specs.declared.event.Event.{Event}
 use Rattle.dn_world.specs.declared.packet.Packet.{Packet}

@@ -1,12 +1,11 @@
 -- What a driven fabric shows is the trace of the case.
-use Rattle.std.proofs.Common.{◌≡◌, ℕ, zero, suc, ◌+◌, ◌<◌, ◌≤◌, Bool, true, false, inl, inr, List, [], ◌++◌, length, take, Option, refl, sym, ap, subst, ◌∙◌, append_assoc, append-nil, arith}
-use Rattle.std.specs.Prelude.{codes, nat_lt}
+use Rattle.std.proofs.Common.{◌≡◌, ℕ, zero, suc, ◌+◌, ◌<◌, true, false, inr, List, [], ◌++◌, length, Option, refl, sym, ap, subst, ◌∙◌, append_assoc, append-nil, arith}
+use Rattle.std.specs.Prelude.{codes}
 use Rattle.std.proofs.lemmas.Bool.{ltb-false}
 use Rattle.std.proofs.lemmas.List.{take_all}
 use Rattle.dn_io.specs.Streams.{behind, PutsFront}
 use Rattle.dn_io.proofs.StreamLaws.{behind-behind, PutsFront-longer, PutsFront-after, PutsFront-none}
 use Rattle.dn_guest.specs.declared.node.Node.{Node}
-use Rattle.dn_guest.specs.Meaning.{Meaning}
 use Rattle.dn_model.specs.declared.router.RouterDef.{RouterDef}
 use Rattle.dn_model.specs.declared.event.Event.{Event}
 use Rattle.dn_model.specs.declared.feed.External.{External}
@@ -19,18 +18,17 @@ use Rattle.dn_trace.specs.Rows.{row_lines, state_line}
 use Rattle.dn_trace.specs.Trace.{trace_text, end_text, last_lines, cut_line, end_line, state_lines}
 use Rattle.dn_trace.specs.declared.stream.Ending.{Ending}
 use Rattle.dn_trace.specs.declared.stream.Ending.TheVariants as ending
-use Rattle.dn_fabric.specs.Fabrics.{Fabric, IsNetworkOf}
+use Rattle.dn_fabric.specs.Fabrics.{Fabric}
 use Rattle.dn_drive.specs.declared.ended.Ended.{Ended}
 use Rattle.dn_drive.specs.declared.ended.Ended.TheVariants as ended
 use Rattle.dn_drive.specs.Endings.{IsWholeRun, IsCutRun, StandsAt}
 use Rattle.dn_journal.specs.Spelling.{journal_text}
 use Rattle.guest_any.specs.declared.any.AnyGuest.{AnyGuest}
 use Rattle.guest_any.specs.Any.{any}
-use Rattle.dn_world.specs.declared.step.Step.{Step}
 use Rattle.dn_top.specs.declared.status.Status.{Status}
 use Rattle.dn_top.specs.declared.status.Status.TheVariants as status
-use Rattle.dn_top.specs.Promises.{network_of, is_cut_case, trace_of, written, shaken}
-use Rattle.dn_top.specs.Drives.{IsFabricOf, ShowsRun, Shows, Drives, driven_text, status_of, is_illegal}
+use Rattle.dn_top.specs.Promises.{network_of, is_cut_case, written, shaken}
+use Rattle.dn_top.specs.Drives.{ShowsRun, Shows, Drives, driven_text, status_of, is_illegal}
 
 -- ---- how the trace ends
 

@@ -1,4 +1,4 @@
-use Rattle.std.proofs.Common.{◌≡◌, ℕ, ◌+◌, ◌≤◌, length}
+use Rattle.std.proofs.Common.{◌≡◌, ◌+◌, ◌≤◌, length}
 use Rattle.dn_text.specs.Lines.{lines}
 use Rattle.dn_top.proofs.rerun.count_lines.Given as goal
 

@@ -1,4 +1,4 @@
-use Rattle.std.proofs.Common.{ℕ, List, sym, subst}
+use Rattle.std.proofs.Common.{List, sym, subst}
 use Rattle.dn_model.specs.Cases.{Recording, IsRecording}
 use Rattle.dn_world.specs.declared.step.Step.{Step}
 use Rattle.dn_journal.specs.Reading.{IsJournal}

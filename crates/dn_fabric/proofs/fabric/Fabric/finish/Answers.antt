@@ -1,4 +1,4 @@
-use Rattle.std.proofs.Common.{◌≡◌, ◌<◌, ◌++◌, ◌∷◌, [], true, false, length, get_or, refl, sym, ap, ◌∙◌, subst, set}
+use Rattle.std.proofs.Common.{◌≡◌, ◌++◌, ◌∷◌, [], true, false, get_or, refl, sym, ap, ◌∙◌, subst, set}
 use Rattle.std.specs.Prelude.{slice_set}
 use Rattle.dn_guest.specs.Meaning.{Meaning}
 use Rattle.dn_router.specs.Orders.{Task}
