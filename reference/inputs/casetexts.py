@@ -1,6 +1,6 @@
 """Random case texts, as lists of lines without newlines."""
 
-from model.casetext import prefix_line
+from model.casetext import prefix_line, read_case
 from model.events import CMD, DOWN, UP
 
 LETTERS = b"abcdefghijklmnopqrstuvwxyz"
@@ -57,6 +57,12 @@ def a_case(rng, shape):
     lines.append(b"feed")
     lines += some_feed(rng, names, ports, groups, rng.randint(0, shape.externals))
     return lines + [b"end"]
+
+
+def some_case(rng, shapes=(TINY, TINY, BUSY, FLOOD, MIXED)):
+    """The text and the case of one of these shapes."""
+    text = joined(a_case(rng, rng.choice(shapes)))
+    return text, read_case(text)[0]
 
 
 def some_links(rng, names, ports, count, period):
