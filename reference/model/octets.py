@@ -3,7 +3,7 @@
 
 def packed(*fields):
     """The bytes of these fields, each a value and its size."""
-    return b"".join(value.to_bytes(size, "big") for value, size in fields)
+    return b"".join([value.to_bytes(size, "big") for value, size in fields])
 
 
 def number(raw, place, size):

@@ -1,6 +1,6 @@
 """`check`: equal sections, changed ones, shorter and longer ones; and what may stand behind a case."""
 
-from inputs import walks
+from inputs import edits, walks
 from inputs.casetexts import MIXED, TINY, joined, some_case
 from model.trace import trace_text
 
@@ -32,18 +32,11 @@ def longer(rng, comparison):
 
 
 def row_changes(rng, comparison):
-    """Rows taken out, swapped, doubled, of another case."""
+    """Lines taken out, swapped, doubled or moved, or another number of rows."""
     text, case = some_case(rng)
     lines = trace_text(case)[0].split(b"\n")[:-1]
-    place = rng.randrange(len(lines))
-    what = rng.randrange(4)
-    if what == 0:
-        del lines[place]
-    elif what == 1:
-        lines.insert(place, lines[place])
-    elif what == 2:
-        other = rng.randrange(len(lines))
-        lines[place], lines[other] = lines[other], lines[place]
+    if rng.random() < 0.8:
+        lines = edits.edit_lines(rng, lines)
     else:
         lines[-1] = b"end trace %d" % rng.randrange(300)
     comparison.compare(CHECK, text + joined(lines))

@@ -22,6 +22,6 @@ def long(rng, comparison):
     compared(comparison, rng.choice(LONG)(rng))
 
 
-COUNT = 250
-FIRST = (long,) * 4
+COUNT = 150
+FIRST = (long,) * 3
 PIECES = (short,)

@@ -39,6 +39,6 @@ def crowd(rng, comparison):
     comparison.compare([b"shake", b"%d" % rng.getrandbits(64), b"--steps", b"30000"], text)
 
 
-COUNT = 300
+COUNT = 500
 FIRST = ()
 PIECES = (shaken, shaken, shaken, shaken_edge, shaken_back, crowd)

@@ -1,13 +1,15 @@
 """LSAs: header, LS checksum (12.1.7), the newer instance (13.1), and the links of a router-LSA (A.4.2)."""
 
+import struct
 from dataclasses import dataclass, replace
 
-from ...octets import number, packed
+from ...octets import number
 
-MAX_AGE, MAX_AGE_DIFFERENCE = 3600, 900
-ROUTER_LSA = 1
+MAX_AGE, MAX_AGE_DIFFERENCE, ROUTER_LSA = 3600, 900, 1
 POINT_TO_POINT, STUB = 1, 3
-HEAD_SIZE = 20
+HEAD = struct.Struct(">HBBIIIHH")
+LINK = struct.Struct(">IIBBH")
+HEAD_SIZE = HEAD.size
 
 
 @dataclass(frozen=True)
@@ -29,14 +31,13 @@ class Head:
 
     def encode(self):
         """Its bytes."""
-        return packed((self.age, 2), (self.options, 1), (self.kind, 1), (self.id, 4),
-                      (self.router, 4), (self.seq, 4), (self.sum, 2), (self.length, 2))
+        return HEAD.pack(self.age, self.options, self.kind, self.id, self.router,
+                         self.seq, self.sum, self.length)
 
 
 def decode_head(raw):
     """The header in 20 bytes."""
-    return Head(number(raw, 0, 2), raw[2], raw[3], number(raw, 4, 4), number(raw, 8, 4),
-                number(raw, 12, 4), number(raw, 16, 2), number(raw, 18, 2))
+    return Head(*HEAD.unpack(raw))
 
 
 @dataclass(frozen=True)
@@ -101,17 +102,15 @@ def links_of(body):
         return None
     links, place = [], 4
     for _ in range(number(body, 2, 2)):
-        if place + 12 > len(body):
+        if place + LINK.size > len(body):
             return None
-        links.append((body[place + 8], number(body, place, 4), number(body, place + 4, 4),
-                      number(body, place + 10, 2)))
-        place += 12 + 4 * body[place + 9]
+        link_id, data, kind, metrics, metric = LINK.unpack_from(body, place)
+        links.append((kind, link_id, data, metric))
+        place += LINK.size + 4 * metrics
     return links if place == len(body) else None
 
 
 def encode_links(links):
     """The body of a router-LSA with these links."""
-    out = packed((0, 2), (len(links), 2))
-    for kind, link_id, data, metric in links:
-        out += packed((link_id, 4), (data, 4), (kind, 1), (0, 1), (metric, 2))
-    return out
+    packed = [LINK.pack(link_id, data, kind, 0, metric) for kind, link_id, data, metric in links]
+    return struct.pack(">HH", 0, len(links)) + b"".join(packed)

@@ -1,10 +1,11 @@
 """RIP messages and their entries (sections 3.6 and 4)."""
 
+import struct
 from dataclasses import dataclass
 
 from ...nets import has_host_bits, length_of
-from ...octets import number, packed
 
+ENTRY = struct.Struct(">HHIIII")
 REQUEST, RESPONSE = 1, 2
 VERSION = 2
 IP, ANY_FAMILY, AUTHENTICATION = 2, 0, 0xFFFF
@@ -25,8 +26,7 @@ class Entry:
 
     def encode(self):
         """Its bytes."""
-        return packed((self.family, 2), (self.tag, 2), (self.address, 4),
-                      (self.mask, 4), (self.hop, 4), (self.metric, 4))
+        return ENTRY.pack(self.family, self.tag, self.address, self.mask, self.hop, self.metric)
 
     def network(self):
         """(address, length) where the entry names a network, else None."""
@@ -44,20 +44,14 @@ class Entry:
         return is_default or (first not in (0, 127) and first < 224)
 
 
-def decode_entry(raw):
-    """The entry in 20 bytes."""
-    return Entry(number(raw, 0, 2), number(raw, 2, 2), number(raw, 4, 4),
-                 number(raw, 8, 4), number(raw, 12, 4), number(raw, 16, 4))
-
-
 def decode(body):
     """(command, entries), or None where the bytes are no message."""
-    count, left = divmod(len(body) - 4, 20)
+    count, left = divmod(len(body) - 4, ENTRY.size)
     if left != 0 or not 1 <= count <= MOST_ENTRIES:
         return None
     if body[0] not in (REQUEST, RESPONSE) or body[1] != VERSION:
         return None
-    return body[0], [decode_entry(body[place:place + 20]) for place in range(4, len(body), 20)]
+    return body[0], [Entry(*fields) for fields in ENTRY.iter_unpack(body[4:])]
 
 
 def encode(command, entries):
