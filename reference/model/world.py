@@ -154,7 +154,10 @@ class World:
 
     def take(self, step):
         """Takes an enabled step."""
-        getattr(self, "do_" + step[0])(*step[1:])
+        steps = {"beacon": self.do_beacon, "inject": self.do_inject, "close": self.do_close,
+                 "deliver": self.do_deliver, "handle": self.do_handle,
+                 "rollback": self.do_rollback, "commit": self.do_commit}
+        steps[step[0]](*step[1:])
 
     def do_beacon(self):
         """The floor rises and its ticks go into each `todo`."""

@@ -22,6 +22,6 @@ def long(rng, comparison):
     compared(comparison, rng.choice(LONG)(rng))
 
 
-COUNT = 150
-FIRST = (long,) * 3
+COUNT = 130
+FIRST = (long,) * 2
 PIECES = (short,)

@@ -161,7 +161,7 @@ def finish(rng, comparison, lines):
     comparison.compare(rng.choice(COMMANDS), text)
 
 
-COUNT = 1500
+COUNT = 1300
 FIRST = (fronts, fronts, nothing) + (full,) * 8
 PIECES = (valid, valid, recording, mutated, mutated, mutated, mutated, near_router, near_link,
           near_prefix, near_prefix, near_external, near_external, near_first)
