@@ -41,9 +41,12 @@ def run_part(name, number, count, path):
 
 
 def main():
-    """Runs the parts; the status is 1 at the first difference."""
+    """Runs the parts; the status is 1 at the first difference, and 2 where nothing can be compared."""
     chosen = arguments()
-    path = os.environ.get("PROGRAM", os.path.join(ROOT, "defined"))
+    path = os.path.abspath(os.environ.get("PROGRAM", os.path.join(ROOT, "defined")))
+    if not os.access(path, os.X_OK):
+        print("no program at " + path, file=sys.stderr)
+        return 2
     try:
         for name in chosen.parts or DEFAULT:
             run_part(name, chosen.number, chosen.count, path)

@@ -1,6 +1,7 @@
 """Runs the program on an input and compares its answer with the model's."""
 
 import os
+import shlex
 import subprocess
 import tempfile
 
@@ -11,9 +12,9 @@ class Different(Exception):
     """The first difference, told in lines."""
 
 
-def shown(data):
-    """The end of what was written, printable."""
-    return data[-400:].decode("ascii", "backslashreplace")
+def around(data, place):
+    """What stands about a place, printable."""
+    return data[max(0, place - 80):place + 160].decode("ascii", "backslashreplace")
 
 
 class Comparison:
@@ -41,14 +42,14 @@ class Comparison:
         for name, data in (("input", text), ("model", want.out), ("program", done.stdout)):
             with open(os.path.join(folder, name), "wb") as file:
                 file.write(data)
-        command = b" ".join(words).decode("ascii", "backslashreplace")
-        place = program.first_difference(want.out, done.stdout)
-        return "\n".join((
-            "%s: input %d differs" % (self.part, self.count),
-            "command: %s %s < %s/input" % (self.path, command, folder),
-            "model:   status %d, %r, %d bytes (%s/model)" % (want.number, want.err, len(want.out), folder),
-            "program: status %d, %r, %d bytes (%s/program)"
-            % (done.returncode, done.stderr, len(done.stdout), folder),
-            "first different byte of the output: %d" % place,
-            "model there:   " + shown(want.out[:place][-80:] + want.out[place:place + 160]),
-            "program there: " + shown(done.stdout[:place][-80:] + done.stdout[place:place + 160])))
+        command = shlex.join(word.decode("ascii", "backslashreplace") for word in [self.path.encode(), *words])
+        lines = ["%s: input %d differs" % (self.part, self.count),
+                 "command: %s < %s/input" % (command, folder),
+                 "model:   status %d, %r, %d bytes (%s/model)" % (want.number, want.err, len(want.out), folder),
+                 "program: status %d, %r, %d bytes (%s/program)"
+                 % (done.returncode, done.stderr, len(done.stdout), folder)]
+        if want.out != done.stdout:
+            place = program.first_difference(want.out, done.stdout)
+            lines += ["the outputs differ at %d" % place, "model:   ..." + around(want.out, place),
+                      "program: ..." + around(done.stdout, place)]
+        return "\n".join(lines)

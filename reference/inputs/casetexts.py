@@ -1,11 +1,12 @@
 """Random case texts, as lists of lines without newlines."""
 
+from dataclasses import dataclass
+
+from model.case import KINDS, MAX_BODY, MAX_COST, MAX_DELAY, MAX_PORTS, MAX_RIP_COST
 from model.casetext import prefix_line, read_case
 from model.events import CMD, DOWN, UP
-
-LETTERS = b"abcdefghijklmnopqrstuvwxyz"
-KINDS = (b"flood", b"ospf", b"rip")
-GREATEST_WORD = (1 << 64) - 1
+from model.nets import mask_of
+from model.numbers import DIGITS, LOWER, U64_MAX
 
 
 def joined(lines):
@@ -17,20 +18,23 @@ def a_name(rng, taken):
     """A name that isn't taken yet, now and then of 16 characters."""
     while True:
         size = rng.choice((1, 1, 2, 3, 16))
-        name = bytes([rng.choice(LETTERS)])
-        name += bytes(rng.choice(LETTERS + b"0123456789") for _ in range(size - 1))
+        name = bytes([rng.choice(LOWER)])
+        name += bytes(rng.choice(LOWER + DIGITS) for _ in range(size - 1))
         if name not in taken:
             return name
 
 
+@dataclass(frozen=True)
 class Shape:
-    """How large a random case is."""
+    """How large a random case is at the most; `prefixes` is a router's number of them."""
 
-    def __init__(self, kinds=KINDS, routers=6, links=8, prefixes=6, groups=12,
-                 period=60, externals=10):
-        self.kinds, self.routers, self.links = kinds, routers, links
-        self.prefixes, self.groups, self.period = prefixes, groups, period
-        self.externals = externals
+    kinds: tuple = KINDS
+    routers: int = 6
+    links: int = 8
+    prefixes: int = 6
+    groups: int = 12
+    period: int = 60
+    externals: int = 10
 
 
 FLOOD = Shape(kinds=(b"flood",))
@@ -49,7 +53,7 @@ def a_case(rng, shape):
         names.append(a_name(rng, names))
         kinds.append(rng.choice(shape.kinds))
     period, groups = rng.randint(1, shape.period), rng.randint(1, shape.groups)
-    seed = rng.choice((0, 0, 1, rng.getrandbits(64), GREATEST_WORD))
+    seed = rng.choice((0, 0, 1, rng.getrandbits(64), U64_MAX))
     lines = [b"defined 1", b"period %d" % period, b"groups %d" % groups, b"seed %d" % seed]
     lines += [b"router %s %s" % pair for pair in zip(names, kinds)]
     lines += some_links(rng, names, ports, rng.randint(0, shape.links), period)
@@ -70,12 +74,12 @@ def some_links(rng, names, ports, count, period):
     lines = []
     while len(names) > 1 and len(lines) < count:
         a, b = rng.sample(names, 2)
-        if max(ports.get(a, 0), ports.get(b, 0)) >= 16:
+        if max(ports.get(a, 0), ports.get(b, 0)) >= MAX_PORTS:
             break
         for name in (a, b):
             ports[name] = ports.get(name, 0) + 1
-        delay = rng.choice((1, rng.randint(1, 3 * period), rng.randint(1, period), 1_000_000))
-        cost = rng.choice((1, 65_535, rng.randint(1, 20)))
+        delay = rng.choice((1, rng.randint(1, 3 * period), rng.randint(1, period), MAX_DELAY))
+        cost = rng.choice((1, MAX_COST, rng.randint(1, 20)))
         lines.append(b"link %s %s %d %d" % (a, b, delay, cost))
     return lines
 
@@ -89,11 +93,11 @@ def some_prefixes(rng, names, kinds, count):
         per[name] = []
         for _ in range(rng.randint(0, count)):
             length = rng.randint(0, 32)
-            address = rng.getrandbits(32) >> (32 - length) << (32 - length)
+            address = rng.getrandbits(32) & mask_of(length)
             if (name, address, length) in held:
                 continue
             held.add((name, address, length))
-            cost = rng.randint(1, 15 if kind == b"rip" else 65_535)
+            cost = rng.randint(1, MAX_RIP_COST if kind == b"rip" else MAX_COST)
             per[name].append(prefix_line(name, (address, length, cost)))
     lines, left = [], [name for name in per if per[name]]
     while left:
@@ -115,7 +119,7 @@ def an_input(rng, names, ports):
     count = ports.get(name, 0)
     kind = rng.choice((CMD, CMD, DOWN, UP)) if count else CMD
     if kind == CMD:
-        size = rng.choice((1, 1, 1, 2, 3, 255 if rng.random() < 0.1 else 4))
+        size = rng.choice((1, 1, 1, 2, 3, MAX_BODY if rng.random() < 0.1 else 4))
         body = bytes(rng.choice((0x41, 0x42, 0, 255, rng.randrange(256))) for _ in range(size))
         return b"%s cmd %s" % (name, body.hex().encode())
     return b"%s %s %d" % (name, b"down" if kind == DOWN else b"up", rng.randrange(count))

@@ -4,9 +4,10 @@ from model.case import MAX_DELAY, MAX_LINKS, MAX_PERIOD, MAX_PORTS, Case, Extern
 from model.events import CMD, DOWN, UP, external_event
 from model.lockstep import Run
 from model.nets import mask_of
+from model.numbers import U64_MAX
 from model.octets import packed
 
-SEEDS = (0, 0, 7, (1 << 64) - 1)
+SEEDS = (0, 0, 7, U64_MAX)
 PERIODS = (1, 2, 5, 10, 100, 1000)
 ADDRESSES = (0x0A000000, 0x0A090000, 0xC0A80100, 0xFFFFFFFF, 0x80000000)
 

@@ -1,6 +1,7 @@
 """Random legal walks through a world, and edits of journals."""
 
 from model import journal
+from model.numbers import U64_MAX
 from model.world import World
 
 from . import edits
@@ -55,7 +56,7 @@ def any_step(rng, case):
     """A step of any kind, with places past the flight too."""
     router = rng.randrange(len(case.routers))
     choices = [("beacon",), ("close",), ("commit",), ("handle", router), ("rollback", router),
-               ("deliver", rng.choice((0, 0, 1, 2, 5, 4294967296, (1 << 64) - 1)))]
+               ("deliver", rng.choice((0, 0, 1, 2, 5, 4294967296, U64_MAX)))]
     if case.feed:
         choices += [("inject", rng.choice(case.feed))] * 2
     return rng.choice(choices)

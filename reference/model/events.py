@@ -6,22 +6,23 @@ Msg; the group of a tick or the port; the body's bytes. A key is
 Python's order of tuples is then the order of events.
 """
 
+from .numbers import U64_MAX
+
 TICK, CMD, DOWN, UP, MSG = range(5)
 
-MASK = (1 << 64) - 1
 GOLDEN = 0x9E3779B97F4A7C15
 
 
 def fin(z):
     """The mixing function of the ties and of the schedule."""
-    z = ((z ^ (z >> 30)) * 0xBF58476D1CE4E5B9) & MASK
-    z = ((z ^ (z >> 27)) * 0x94D049BB133111EB) & MASK
+    z = ((z ^ (z >> 30)) * 0xBF58476D1CE4E5B9) & U64_MAX
+    z = ((z ^ (z >> 27)) * 0x94D049BB133111EB) & U64_MAX
     return z ^ (z >> 31)
 
 
 def draw(h, value=0):
     """One round: `fin(h + 0x9E37.. + value)`, wrapping at 64 bits."""
-    return fin((h + GOLDEN + value) & MASK)
+    return fin((h + GOLDEN + value) & U64_MAX)
 
 
 def tie(seed, group, total, origin, seq):

@@ -2,8 +2,7 @@
 
 from .events import DOWN, MSG, UP, message_event
 from .guests import opening_guest
-
-SENDS = 1 << 64
+from .numbers import U64_MAX
 
 
 def opening_nodes(case):
@@ -49,7 +48,7 @@ class Node:
         for port, body in self.guest.step(self.mask, entry):
             if self.is_up(port):
                 numbered.append((self.sends, port, body))
-                self.sends = (self.sends + 1) % SENDS
+                self.sends = (self.sends + 1) & U64_MAX
         return numbered
 
     def take(self, case, ends, event):

@@ -1,7 +1,8 @@
 """`rerun` of journals: random legal walks, edited ones, and texts that are no journal."""
 
 from inputs import walks
-from inputs.casetexts import GREATEST_WORD, TINY, joined, some_case
+from inputs.casetexts import TINY, joined, some_case
+from model.numbers import U64_MAX
 from model.trace import trace_text
 
 RERUN = [b"rerun"]
@@ -63,8 +64,8 @@ def inject_edges(rng, comparison):
     steps = walks.walk(rng, case, rng.randint(0, 6), finish=False)
     router = rng.randrange(len(case.routers))
     count = case.port_count(router)
-    group = rng.choice((0, 0, case.groups - 1, case.groups, 4096, GREATEST_WORD + 1))
-    port = rng.choice((0, max(count - 1, 0), count, 15, 16, 255, 256, GREATEST_WORD + 1))
+    group = rng.choice((0, 0, case.groups - 1, case.groups, 4096, U64_MAX + 1))
+    port = rng.choice((0, max(count - 1, 0), count, 15, 16, 255, 256, U64_MAX + 1))
     name = rng.choice((case.routers[router].name,) * 4 + (b"nobody",))
     what = rng.choice((b"down %d" % port, b"up %d" % port, b"cmd " + b"00" * rng.choice((1, 255, 256))))
     lines = walks.section(case, steps).split(b"\n")[:-2]

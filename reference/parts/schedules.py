@@ -1,6 +1,7 @@
 """`shake`: schedules of many cases, also of OSPF and RIP routers."""
 
-from inputs.casetexts import CROWD, GREATEST_WORD, some_case
+from inputs.casetexts import CROWD, some_case
+from model.numbers import U64_MAX
 from model.replay import shake
 
 WHOLE = (b"--steps", b"1000000")
@@ -9,7 +10,7 @@ WHOLE = (b"--steps", b"1000000")
 def shaken(rng, comparison):
     """`shake` of a random number by many or few steps."""
     text, case = some_case(rng)
-    number = rng.choice((b"0", b"1", b"%d" % rng.getrandbits(64), b"%d" % (GREATEST_WORD),
+    number = rng.choice((b"0", b"1", b"%d" % rng.getrandbits(64), b"%d" % (U64_MAX),
                          b"%d" % rng.randrange(1000)))
     steps = rng.choice((b"1000000", b"1000000", b"1000000", b"1", b"2", b"20", b"200",
                         b"%d" % rng.randint(1, 400)))

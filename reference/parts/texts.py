@@ -1,10 +1,12 @@
 """Case texts: valid ones, edited ones, fronts, and lines near every limit."""
 
 from inputs import edits
-from inputs.casetexts import ANY, FLOOD, FULL, GREATEST_WORD, KINDS, TINY, a_case, joined
+from inputs.casetexts import ANY, FLOOD, FULL, TINY, a_case, joined
+from model.case import KINDS
 from model.casetext import prefix_line
+from model.numbers import U64_MAX
 
-PAST_WORD = b"%d" % (GREATEST_WORD + 1)
+PAST_WORD = b"%d" % (U64_MAX + 1)
 RERUN = [b"rerun"]
 RUNS = ([b"run"], [b"lockstep"])
 COMMANDS = (*RUNS, [b"check"], RERUN, [b"shake", b"7", b"--steps", b"1"])
@@ -64,7 +66,7 @@ def base(rng, routers, kinds):
 def near(rng, good, least, greatest):
     """A number in or just past its range, or past u64."""
     return b"%d" % rng.choice((good, good, good, least, greatest, least - 1 if least else 0,
-                               greatest + 1, GREATEST_WORD, GREATEST_WORD + 1, 10 ** 30))
+                               greatest + 1, U64_MAX, U64_MAX + 1, 10 ** 30))
 
 
 def near_router(rng, comparison):
