@@ -1,7 +1,5 @@
 """Crafted LSAs: valid ones, and ones near to a given one."""
 
-from dataclasses import replace
-
 from model.guests.ospf.lsa import Head, Lsa, encode_links, fletcher_set
 from model.nets import ALL_BITS, mask_of
 
@@ -96,15 +94,15 @@ def variant(rng, lsa, routers):
     head, body = lsa.head, lsa.body
     if roll < 0.65:
         body = some_body(rng, routers)
-        head = replace(head, length=20 + len(body))
+        head = head._replace(length=20 + len(body))
     if roll < 0.75:
-        head = replace(head, options=head.options ^ 1 << rng.randint(0, 7))
+        head = head._replace(options=head.options ^ 1 << rng.randint(0, 7))
     else:
         step = rng.choice((-1, 1, 1, 1, 2, -2, 0x7FFFFFFF, 0x80000000))
         near = (head.seq + step) & ALL_BITS
-        head = replace(head, seq=rng.choice((near, near, rng.choice(SEQS))))
+        head = head._replace(seq=rng.choice((near, near, rng.choice(SEQS))))
     if rng.random() < 0.3:
-        head = replace(head, age=rng.choice(AGES))
+        head = head._replace(age=rng.choice(AGES))
     return fletcher_set(Lsa(head, body))
 
 
@@ -118,11 +116,11 @@ def near_age(rng, age):
 def alias(lsa):
     """Where a check byte is 255 it becomes 0; the sums stay 0 modulo 255."""
     high, low = divmod(lsa.head.sum, 256)
-    return Lsa(replace(lsa.head, sum=high % 255 * 256 + low % 255), lsa.body)
+    return Lsa(lsa.head._replace(sum=high % 255 * 256 + low % 255), lsa.body)
 
 
 def bad_sum(rng, lsa):
     """The LSA with another LS checksum, mostly a wrong one."""
     old = lsa.head.sum
     other = rng.choice((old ^ 1, old ^ 0x100, 0, (old + 1) & 0xFFFF, old * 256 % 65535, rng.getrandbits(16)))
-    return Lsa(replace(lsa.head, sum=other), lsa.body)
+    return Lsa(lsa.head._replace(sum=other), lsa.body)

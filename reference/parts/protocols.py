@@ -22,6 +22,6 @@ def long(rng, comparison):
     compared(comparison, rng.choice(LONG)(rng))
 
 
-COUNT = 130
+COUNT = 100
 FIRST = (long,) * 2
 PIECES = (short,)

@@ -1,7 +1,7 @@
 """LSAs: header, LS checksum (12.1.7), the newer instance (13.1), and the links of a router-LSA (A.4.2)."""
 
 import struct
-from dataclasses import dataclass, replace
+from typing import NamedTuple
 
 from ...octets import number
 
@@ -12,8 +12,7 @@ LINK = struct.Struct(">IIBBH")
 HEAD_SIZE = HEAD.size
 
 
-@dataclass(frozen=True)
-class Head:
+class Head(NamedTuple):
     """An LSA's header."""
 
     age: int
@@ -31,8 +30,7 @@ class Head:
 
     def encode(self):
         """Its bytes."""
-        return HEAD.pack(self.age, self.options, self.kind, self.id, self.router,
-                         self.seq, self.sum, self.length)
+        return HEAD.pack(*self)
 
 
 def decode_head(raw):
@@ -40,8 +38,7 @@ def decode_head(raw):
     return Head(*HEAD.unpack(raw))
 
 
-@dataclass(frozen=True)
-class Lsa:
+class Lsa(NamedTuple):
     """A header and a body."""
 
     head: Head
@@ -53,7 +50,7 @@ class Lsa:
 
     def at_age(self, age):
         """The same at another age."""
-        return Lsa(replace(self.head, age=age), self.body)
+        return Lsa(self.head._replace(age=age), self.body)
 
 
 def fletcher_sums(lsa):
@@ -70,12 +67,12 @@ def fletcher_ok(lsa):
 
 def fletcher_set(lsa):
     """The LSA with the two check bytes, from 1 to 255, that make both sums 0."""
-    bare = Lsa(replace(lsa.head, sum=0), lsa.body)
+    bare = Lsa(lsa.head._replace(sum=0), lsa.body)
     plain, weighted = fletcher_sums(bare)
     second_weight = 3 + len(lsa.body)       # of the second check byte, which stands 3 bytes before the body
     first = (second_weight * plain - weighted) % 255 or 255
     second = (-plain - first) % 255 or 255
-    return Lsa(replace(lsa.head, sum=first * 256 + second), lsa.body)
+    return Lsa(lsa.head._replace(sum=first * 256 + second), lsa.body)
 
 
 def signed(seq):

@@ -47,7 +47,7 @@ class Lsdb:
 
     def head_now(self, key, now):
         """The header with the age that it has now."""
-        return replace(self.map[key].lsa.head, age=self.age(key, now))
+        return self.map[key].lsa.head._replace(age=self.age(key, now))
 
     def flush(self, key, now):
         """An LSA is set to MaxAge."""
