@@ -1,0 +1,125 @@
+"""The whole program: words, statuses, standard output and standard error."""
+
+from dataclasses import dataclass
+
+from . import casetext, journal, replay, trace
+from .numbers import U64_MAX, decimal
+
+INPUT_LIMIT = 16_777_216
+MAX_STEPS = 1_000_000
+
+NUMBERS = {"ok": 0, "differs": 1, "usage": 2, "badcase": 3, "cut": 4,
+           "readfault": 5, "writefault": 6, "nomemory": 7, "toobig": 8,
+           "illegal": 9, "open": 10}
+
+
+@dataclass
+class Answer:
+    """What the program answers."""
+
+    status: str
+    detail: str = ""
+    out: bytes = b""
+
+    @property
+    def number(self):
+        """The exit status."""
+        return NUMBERS[self.status]
+
+    @property
+    def err(self):
+        """The bytes on standard error."""
+        texts = {"ok": None, "differs": "differs at %s" % self.detail,
+                 "usage": "usage", "badcase": "line %s" % self.detail,
+                 "cut": "cut", "readfault": "read fault",
+                 "writefault": "write fault", "toobig": "too big",
+                 "illegal": "illegal step %s" % self.detail, "open": "open"}
+        text = texts[self.status]
+        return b"" if text is None else ("defined: %s\n" % text).encode()
+
+
+def plain(words):
+    """(command, number, steps) of words that are a command, or None."""
+    if len(words) == 1 and words[0] in (b"run", b"lockstep", b"check", b"rerun"):
+        return (words[0].decode(), None, None)
+    if len(words) == 4 and words[0] == b"shake" and words[2] == b"--steps":
+        number, steps = decimal(words[1]), decimal(words[3])
+        if number is None or number > U64_MAX:
+            return None
+        if steps is None or not 1 <= steps <= MAX_STEPS:
+            return None
+        return ("shake", number, steps)
+    return None
+
+
+def bad_line(line, cause):
+    """The answer for a bad line."""
+    return Answer("badcase", "%d: %s" % (line, cause))
+
+
+def answer(words, text):
+    """What the program answers to these words and this input."""
+    asked = plain(words)
+    if asked is None:
+        return Answer("usage")
+    if len(text) > INPUT_LIMIT:
+        return Answer("toobig")
+    try:
+        case, length = casetext.read_case(text)
+    except casetext.Fault as fault:
+        return bad_line(fault.line, fault.cause)
+    if asked[0] in ("run", "lockstep"):
+        return written(case)
+    if asked[0] == "check":
+        return checked(case, text[length:], length)
+    if asked[0] == "rerun":
+        return rerun(case, text, length)
+    return shaken(case, asked[1], asked[2])
+
+
+def written(case):
+    """Recording and trace, at Ok or Cut."""
+    section, cut = trace.trace_text(case)
+    return Answer("cut" if cut else "ok", out=casetext.write_case(case) + section)
+
+
+def checked(case, rest, start):
+    """The answer of `check` for the rest of the input that begins at a place."""
+    if not rest.startswith(b"trace\n"):
+        return Answer("differs", str(start + first_difference(rest, b"trace\n")))
+    section, cut = trace.trace_text(case)
+    if rest != section:
+        return Answer("differs", str(start + first_difference(rest, section)))
+    return Answer("cut" if cut else "ok")
+
+
+def first_difference(left, right):
+    """The first place where a byte differs or one of two unequal texts ends."""
+    shorter = min(len(left), len(right))
+    if left[:shorter] == right[:shorter]:
+        return shorter
+    return next(n for n in range(shorter) if left[n] != right[n])
+
+
+def rerun(case, text, length):
+    """The answer of `rerun`; the journal's lines count from the input's start."""
+    begin = length + trace.split_trace(text[length:])
+    lines = trace.line_count(text[:begin])
+    try:
+        steps = journal.read_journal(case, text[begin:])
+    except journal.JournalFault as fault:
+        return bad_line(lines + fault.line, "journal")
+    ending, number = replay.rerun(case, steps)
+    if ending == "illegal":
+        return Answer("illegal", str(number))
+    return Answer("open") if ending == "open" else written(case)
+
+
+def shaken(case, number, most):
+    """The answer of `shake`."""
+    ending, steps = replay.shake(case, number, most)
+    if ending == "open":
+        return Answer("open")
+    whole = written(case)
+    whole.out += journal.write_journal(case, steps)
+    return whole

@@ -1,0 +1,11 @@
+"""The parts of a comparison.
+
+Each has `COUNT`, how many inputs it compares at least; `FIRST`, what it
+compares once; and `PIECES`, of which it draws the rest.
+"""
+
+from . import checks, limits, protocols, replays, schedules, texts, words
+
+PARTS = {"texts": texts, "checks": checks, "replays": replays, "schedules": schedules, "words": words,
+         "protocols": protocols, "limits": limits}
+DEFAULT = tuple(name for name in PARTS if name != "limits")
