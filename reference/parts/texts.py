@@ -72,7 +72,7 @@ def near(rng, good, least, greatest):
 def near_router(rng, comparison):
     """A router line where few or 64 routers stand."""
     lines, names = base(rng, rng.choice((1, 2, 63, 64, 64)), KINDS)
-    name = rng.choice(names + [b"new", b"new", b"new", b"toolongforaname12", b"R1"])
+    name = rng.choice(names + [b"new", b"new", b"new", b"toolongforaname12", b"Upper"])
     line = b"router %s %s" % (name, rng.choice((b"flood", b"ospf", b"rip", b"isis")))
     finish(rng, comparison, lines + [line])
 
