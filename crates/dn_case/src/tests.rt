@@ -1,7 +1,5 @@
-//! Each call once with ample memory, and the causes as the format's table has them.
+//! Each call once with ample memory. Each cause has its texts in the folder `tests/commands` beside the crates.
 
-mod causes;
-mod counts;
 mod whole;
 
 use crate::{CaseError, CaseFault, Cause, read_case};
@@ -36,17 +34,17 @@ fn word(cause: Cause) -> &'static str {
     }
 }
 
-/// A table has rows `LAST|LINE CAUSE`: the front, the last line and its end give this bad line and cause.
-/// The first row that is told otherwise, with what is told; empty where there is none.
-fn first_wrong(alloc: Global, front: &str, end: &str, table: &str) -> Result<String, Fail> {
-    for row in table.lines() {
-        let (last, wanted) = row.split_once('|').ok_or("a row has two fields")?;
-        let text = format!(in alloc; "{front}{last}{end}")?;
-        let fault = fault_of(alloc, text.as_bytes()).ok_or("a row is a case")?;
-        let told = format!(in alloc; "{} {}", fault.line, word(fault.cause))?;
-        if told.as_str() != wanted {
-            return Ok(format!(in alloc; "{row} but {told}")?);
-        }
-    }
-    Ok(String::new(alloc))
+#[test]
+fn errors_say_their_cause(rt: HostRuntime) -> Result<(), Fail> {
+    let alloc = rt.alloc();
+    let fault = CaseError::Fault(CaseFault {
+        line: 7,
+        cause: Cause::Range,
+    });
+    assert_eq!(rt; format!(in alloc; "{fault}")?.as_str(), "line 7: Range");
+    assert_eq!(rt;
+        format!(in alloc; "{}", CaseError::NoMemory)?.as_str(),
+        "out of memory"
+    );
+    Ok(())
 }

@@ -1,10 +1,9 @@
-//! Each call once with ample memory, and bad lines as the format has them.
+//! Each call once with ample memory. Bad lines have their texts in the folder `tests/commands` beside the crates.
 
-mod bad_lines;
 mod whole;
 
 use crate::{Step, read_journal, write_journal};
-use dn_case::{CaseError, CaseFault, Cause, read_case};
+use dn_case::read_case;
 use dn_guest::Bytes;
 use dn_model::Header;
 use std::alloc::Global;
@@ -35,28 +34,6 @@ fn steps_of(alloc: Global, header: &Header, text: &[u8]) -> Result<Vec<Step>, Fa
             .ok()
             .ok_or("it is a journal")?,
     )
-}
-
-/// The fault of a text, where it is no journal.
-fn fault_of(alloc: Global, header: &Header, text: &[u8]) -> Option<CaseFault> {
-    match read_journal(alloc, header, text) {
-        Ok(_) => None,
-        Err(CaseError::Fault(fault)) => Some(fault),
-        Err(CaseError::NoMemory) => None,
-    }
-}
-
-/// The bad line of a text, with the cause; 0 where there is none.
-fn bad_line(alloc: Global, header: &Header, text: &str) -> u64 {
-    match fault_of(alloc, header, text.as_bytes()) {
-        Some(
-            CaseFault {
-                line,
-                cause: Cause::Journal,
-            },
-        ) => line,
-        _ => 0,
-    }
 }
 
 /// The text of the journal that is read of a text.
