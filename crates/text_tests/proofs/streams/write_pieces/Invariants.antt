@@ -1,7 +1,7 @@
 use Rattle.std.proofs.Common.{◌≤◌, take}
 use Rattle.std.specs.List.{flat_map}
 use Rattle.dn_io.specs.Streams.{PutsOrKeeps}
-use Rattle.dn_io.proofs.tests.write_pieces.Given as goal
+use Rattle.text_tests.proofs.streams.write_pieces.Given as goal
 
 abbrev pub invariant-loop-piece : goal.invariant-loop-piece
 invariant-loop-piece g l = record {

@@ -1,10 +1,10 @@
 //! Each call once with ample memory and its answer, and a caller of the output buffer.
 ghost use Rattle.std.specs.Prelude.{◌≡◌, OnOk, OnErr, IsErrOf};
-ghost use Rattle.dn_io.specs.declared.tests.Stopped.TheVariants.{Fault, NoMemory};
+ghost use Rattle.text_tests.specs.declared.streams.Stopped.TheVariants.{Fault, NoMemory};
 ghost use Rattle.std.specs.List.{flat_map};
 ghost use Rattle.dn_io.specs.Streams.{behind, PutsFront, Rose};
 
-use crate::{
+use dn_io::{
     MemSink, MemSource, NoMemory, OutputBuffer, Put, ReadError, Sink, Source, StdSink, StdSource,
     Took, WriteFault, put_all, read_all,
 };

@@ -1,10 +1,10 @@
 //! Each call once with ample memory, and spellings by hand.
 
-use crate::{
+use dn_guest::Bytes;
+use dn_text::{
     Number, Piece, append_all, decimal, first_line, first_part, is_hex, numeral, push_decimal,
     push_hex, push_hex64, unhex,
 };
-use dn_guest::Bytes;
 use std::test::Fail;
 
 #[test]

@@ -5,7 +5,7 @@ use Rattle.std.proofs.lemmas.Grind.{flat_map-append}
 use Rattle.std.proofs.lemmas.Result.{err_from_is_err_and}
 use Rattle.dn_io.specs.Streams.{PutsFront}
 use Rattle.dn_io.proofs.StreamLaws.{PutsOrKeeps-after, PutsOrKeeps-flush, PutsOrKeeps-front, PutsOrKeepsFront-after, PutsOrKeepsFront-front, PutsFront-longer}
-use Rattle.dn_io.proofs.tests.write_pieces.Goals as goal
+use Rattle.text_tests.proofs.streams.write_pieces.Goals as goal
 
 abbrev Pieces : Type 0
 Pieces = List (Vec ℕ Global)
