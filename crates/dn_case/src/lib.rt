@@ -53,6 +53,3 @@ pub use laws::{
 pub use read::read_case;
 pub use trace_section::split_trace;
 pub use write::{push_external, write_case};
-
-#[cfg(test)]
-mod tests;

@@ -39,6 +39,3 @@ pub use source::{Source, Took};
 pub use standard::{StdSink, StdSource};
 pub use std::alloc::AllocError as NoMemory;
 pub use write::{WriteFault, put_all};
-
-#[cfg(test)]
-mod tests;

@@ -25,6 +25,3 @@ mod write;
 pub use dn_world::Step;
 pub use read::read_journal;
 pub use write::write_journal;
-
-#[cfg(test)]
-mod tests;

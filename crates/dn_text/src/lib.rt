@@ -23,6 +23,3 @@ pub use decimals::{Number, decimal, numeral, push_decimal};
 pub use hexadecimals::{is_hex, push_hex, push_hex64, unhex};
 pub use lines::{first_line, first_part};
 pub use pieces::{Piece, append_all};
-
-#[cfg(test)]
-mod tests;

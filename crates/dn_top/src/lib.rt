@@ -36,6 +36,3 @@ mod written;
 pub use status::{Status, status_line, status_number};
 pub use top::{defined_plain, defined_top};
 pub use words::{Command, Schedule, command_of};
-
-#[cfg(test)]
-mod tests;

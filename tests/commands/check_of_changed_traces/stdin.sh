@@ -1,0 +1,1 @@
+sed "$1" examples/two_routers.out

@@ -1,0 +1,1 @@
+echo "differs at $(wc -c < "examples/$1.out")"

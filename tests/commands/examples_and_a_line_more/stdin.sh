@@ -1,0 +1,2 @@
+cat "examples/$1.out"
+echo

@@ -1,0 +1,1 @@
+echo "line $((8 + $(head -c "$1" "$CASE/journal" | wc -l))): journal"

@@ -1,0 +1,1 @@
+seq 0 $(($(wc -c < "$CASE/journal") - 1))

@@ -1,0 +1,2 @@
+cat examples/smallest.case
+head -c "$1" "$CASE/journal"

@@ -1,0 +1,2 @@
+bash "$CASE/stdin.sh"
+printf 'feed\nend\n'

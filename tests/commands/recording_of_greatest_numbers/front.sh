@@ -1,0 +1,1 @@
+cat "$CASE/stdin"

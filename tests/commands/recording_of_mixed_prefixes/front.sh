@@ -1,0 +1,1 @@
+cat tests/commands/recording_of_prefixes/stdin

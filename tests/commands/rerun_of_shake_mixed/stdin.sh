@@ -1,0 +1,1 @@
+cat tests/commands/shake_mixed/stdin

@@ -1,0 +1,1 @@
+"$PROGRAM" lockstep < tests/commands/shake_mixed/stdin

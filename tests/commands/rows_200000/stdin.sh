@@ -1,0 +1,2 @@
+source tests/commands/many_rows.sh
+many_rows ''

@@ -1,0 +1,3 @@
+source tests/commands/many_rows.sh
+many_rows ''
+whole_trace

@@ -1,0 +1,1 @@
+"$PROGRAM" lockstep < "$CASE/stdin"
