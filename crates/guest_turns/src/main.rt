@@ -4,7 +4,7 @@
 //! | File | What it has |
 //! |---|---|
 //! | `main.rt` | the table line by line |
-//! | `bench.rs` | the routers of a table, and what each line does with them |
+//! | `bench.rt` | the routers of a table, and what each line does with them |
 //! | `settings.rt` | the guest that a `router` line tells |
 //! | `ospf_state.rt` | the line of an OSPF router's state, from its image |
 //! | `fields.rt`, `stop.rt` | the fields of a line, and why a line isn't played |
