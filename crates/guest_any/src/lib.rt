@@ -20,6 +20,3 @@ mod making;
 pub use any::AnyGuest;
 pub use dn_guest::NoMemory;
 pub use making::make;
-
-#[cfg(test)]
-mod tests;

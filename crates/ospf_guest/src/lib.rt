@@ -24,6 +24,3 @@ pub use laws::sound_states_are_told_plainly;
 pub use ospf::Ospf;
 pub use ospf_router::{Costs, OspfSettings, PrefixList};
 pub use std::alloc::AllocError as NoMemory;
-
-#[cfg(test)]
-mod tests;

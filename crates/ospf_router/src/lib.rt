@@ -47,8 +47,3 @@ pub use prefixes::Prefixes;
 pub use router::Router;
 pub use settings::{Costs, OspfSettings, PrefixList};
 pub use std::alloc::AllocError as NoMemory;
-
-#[cfg(test)]
-mod tests;
-#[cfg(test)]
-mod turns;

@@ -27,6 +27,3 @@ mod updates;
 pub use rip::Rip;
 pub use settings::{Costs, PrefixList, RipSettings};
 pub use std::alloc::AllocError as NoMemory;
-
-#[cfg(test)]
-mod tests;

@@ -1,0 +1,76 @@
+//! What an OSPF router's image tells of neighbours, LSAs and retransmission lists (docs/OSPF.md, "Image").
+
+use dn_guest::{Bytes, NoMemory};
+use dn_text::push_decimal;
+
+/// How many bytes of an image stand before the number of own networks, how many each of these has, and
+/// each entry of a list.
+const FRONT: usize = 10;
+
+const NETWORK: usize = 7;
+
+const ENTRY: usize = 13;
+
+/// The bytes that are left of an image.
+#[derive(Drop)]
+struct Image<'a> {
+    rest: &'a [u8],
+}
+
+impl<'a> Image<'a> {
+    /// Goes over some bytes.
+    fn skip(&mut self, count: usize) {
+        let (_, rest) = self.rest.split_at(count.min(self.rest.len()));
+        self.rest = rest;
+    }
+
+    /// A number of one byte; 0 if there is none.
+    fn byte(&mut self) -> u8 {
+        let number = self.rest.first().copied().unwrap_or(0);
+        self.skip(1);
+        number
+    }
+
+    /// A number of two bytes.
+    fn short(&mut self) -> u16 {
+        let high = self.byte();
+        u16::from_be_bytes([high, self.byte()])
+    }
+
+    /// Goes over a port, appends the word of its neighbour's state, and answers how long its list is.
+    fn port(&mut self, out: &mut Bytes) -> Result<u16, NoMemory> {
+        self.skip(2);
+        out.append(state_word(self.byte()))?;
+        self.skip(8);
+        let listed = self.short();
+        self.skip(usize::from(listed) * ENTRY);
+        Ok(listed)
+    }
+}
+
+fn state_word(code: u8) -> &'static [u8] {
+    match code {
+        0 => b" Down",
+        1 => b" Init",
+        _ => b" Full",
+    }
+}
+
+/// Appends the line of a router's state: `= STATE.., lsas N, listed M`, where the states are those of the
+/// neighbours port by port, and M counts the entries of all retransmission lists.
+pub fn push_state(image: &[u8], out: &mut Bytes) -> Result<(), NoMemory> {
+    let mut image = Image { rest: image };
+    image.skip(FRONT);
+    let networks = image.short();
+    image.skip(usize::from(networks) * NETWORK);
+    out.append(b"=")?;
+    let mut listed = 0u64;
+    for _ in 0..image.byte() {
+        listed = listed.wrapping_add(u64::from(image.port(out)?));
+    }
+    out.append(b", lsas ")?;
+    push_decimal(out, u64::from(image.short()))?;
+    out.append(b", listed ")?;
+    push_decimal(out, listed)?;
+    out.append(b"\n")
+}
