@@ -25,6 +25,3 @@ pub use lists::Lists;
 pub use receiving::{Step, receive};
 pub use std::alloc::AllocError as NoMemory;
 pub use table::Verdict;
-
-#[cfg(test)]
-mod tests;

@@ -23,6 +23,3 @@ pub use kept::Kept;
 pub use key::{LsaKey, key_of};
 pub use lsdb::Lsdb;
 pub use std::alloc::AllocError as NoMemory;
-
-#[cfg(test)]
-mod tests;

@@ -33,6 +33,3 @@ pub use laws::one_table;
 pub use route::Route;
 pub use std::alloc::AllocError as NoMemory;
 pub use table::routes;
-
-#[cfg(test)]
-mod tests;

@@ -48,8 +48,3 @@ pub use packet::{Body, Packet, decode, encode};
 pub use packet_sum::ip_sum;
 pub use router_lsa::{RouterLink, is_well_formed, router_body, router_links};
 pub use std::alloc::AllocError as NoMemory;
-
-#[cfg(test)]
-mod router_lsa_tests;
-#[cfg(test)]
-mod tests;

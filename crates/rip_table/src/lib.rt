@@ -30,6 +30,3 @@ pub use laws::a_change_is_at_one_network;
 pub use networks::{is_network, mask_len, mask_of};
 pub use std::alloc::AllocError as NoMemory;
 pub use table::{MOST_ROUTES, Table};
-
-#[cfg(test)]
-mod tests;

@@ -21,6 +21,3 @@ pub use entry::Entry;
 pub use laws::{messages_are_read, one_message};
 pub use message::{MOST_ENTRIES, Message, REQUEST, RESPONSE, decode, encode};
 pub use std::alloc::AllocError as NoMemory;
-
-#[cfg(test)]
-mod tests;
