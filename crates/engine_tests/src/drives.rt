@@ -13,10 +13,12 @@ use std::alloc::Global;
 use std::test::Fail;
 
 /// Two linked routers, a command at a, and a port of a that goes down two groups later.
-const CASE: &[u8] = b"defined 1\nperiod 100\ngroups 4\nseed 0\nrouter a flood\nrouter b flood\nlink a b 10 1\nfeed\n@0 a cmd 41\n@2 a down 0\nend\n";
+const CASE: &[u8] =
+    b"defined 1\nperiod 100\ngroups 4\nseed 0\nrouter a flood\nrouter b flood\nlink a b 10 1\nfeed\n@0 a cmd 41\n@2 a down 0\nend\n";
 
 /// Steps by which a's message reaches b after b has handled a later tick. They leave b behind.
-const LATE: &[u8] = b"journal\ninject @0 a cmd 41\nhandle b\nbeacon\nhandle b\nhandle a\nhandle a\ndeliver 0\nend journal 7\n";
+const LATE: &[u8] =
+    b"journal\ninject @0 a cmd 41\nhandle b\nbeacon\nhandle b\nhandle a\nhandle a\ndeliver 0\nend journal 7\n";
 
 /// Flooding guests that have seen nothing.
 fn guests(alloc: Global, count: usize) -> Result<Vec<Flood>, NoMemory>

@@ -3,12 +3,12 @@
 ghost use Rattle.std.specs.Prelude.{◌≡◌, [], length, IfOk, IfSome};
 ghost use Rattle.dn_model.specs.declared.router.Kind.TheVariants as Kind;
 
+use dn_guest::{Bytes, Flood, Input, NoMemory, Sent};
+use dn_lists::a_sort_is_the_one_rising_list;
 use dn_model::{
     Case, Event, External, Feed, Header, Key, Kind, Link, Links, Name, Prefixes, RouterDef,
     Routers, Timing, emitted, ends, fin, is_name, laws, opening, row_limit, tie,
 };
-use dn_guest::{Bytes, Flood, Input, NoMemory, Sent};
-use dn_lists::a_sort_is_the_one_rising_list;
 use std::alloc::Global;
 use std::test::Fail;
 

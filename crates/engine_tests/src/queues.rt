@@ -1,8 +1,8 @@
 //! Each call once with ample memory, its answer compared.
 
-use dn_queue::InQueue;
 use dn_guest::{Bytes, Input, NoMemory};
 use dn_model::{Event, Key};
+use dn_queue::InQueue;
 use std::alloc::Global;
 use std::test::Fail;
 

@@ -1,7 +1,7 @@
 //! Each law once at a concrete guest.
 
-use dn_world::laws;
 use dn_guest::Flood;
+use dn_world::laws;
 use std::test::Fail;
 
 #[test]

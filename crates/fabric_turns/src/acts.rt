@@ -65,12 +65,7 @@ fn beacon(fabric: &mut Fabric<Flood>) -> Result<bool, NoMemory> {
 
 /// Whether the input may come from outside to the router.
 #[tactic(auto, unfolding(dn_world::specs::Steps::is_injectable))]
-fn is_asked(
-    alloc: Global,
-    header: &Header,
-    router: u16,
-    input: &Input,
-) -> Result<bool, NoMemory>
+fn is_asked(alloc: Global, header: &Header, router: u16, input: &Input) -> Result<bool, NoMemory>
     ensures { IfOk result (λ asked. asked ≡ is_injectable header.now router input.now) }
 {
     match input {
@@ -83,11 +78,7 @@ fn is_asked(
 }
 
 /// The external comes, if its group has begun last and its router takes it.
-fn inject(
-    alloc: Global,
-    fabric: &mut Fabric<Flood>,
-    coming: External,
-) -> Result<bool, NoMemory> {
+fn inject(alloc: Global, fabric: &mut Fabric<Flood>, coming: External) -> Result<bool, NoMemory> {
     if fabric.stopped() || fabric.closed() || !is_router(fabric, coming.router) {
         return Ok(false);
     }

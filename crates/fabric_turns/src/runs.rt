@@ -4,7 +4,9 @@ ghost use Rattle.std.specs.Prelude.{◌≡◌, length, IfOk};
 ghost use Rattle.dn_drive.specs.Driving.{IsOpening};
 
 use crate::acts::{Done, finish, lease, take, work};
-use crate::shown::{push_accepted, push_ended, push_header, push_rows, push_state, push_steps, push_turn};
+use crate::shown::{
+    push_accepted, push_ended, push_header, push_rows, push_state, push_steps, push_turn,
+};
 use crate::words::Word;
 use dn_drive::{Ended, replay, shake};
 use dn_fabric::Fabric;

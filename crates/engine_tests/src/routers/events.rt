@@ -1,8 +1,8 @@
 //! The events of the tests, all at router 1, and what is compared of events.
 
-use dn_router::Router;
 use dn_guest::{Bytes, Flood, Input, NoMemory};
 use dn_model::{Event, Key};
+use dn_router::Router;
 use std::alloc::Global;
 
 /// The tick of a group.

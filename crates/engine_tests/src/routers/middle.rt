@@ -1,9 +1,9 @@
 //! Router 1 of a small network. Its calls test what those of `Router` ask of the caller.
 
 use super::events::{command, message, tick};
-use dn_router::{Applied, Outcome, Router};
 use dn_guest::{Flood, NoMemory, Node};
 use dn_model::{End, Event, Timing};
+use dn_router::{Applied, Outcome, Router};
 use std::alloc::Global;
 use std::marker::Model;
 

@@ -4,9 +4,9 @@ ghost use Rattle.std.specs.Prelude.{◌<◌};
 
 use super::events::{command, message, tick};
 use super::middle::{Middle, opening};
-use dn_router::Router;
 use dn_guest::{Flood, NoMemory, Node};
 use dn_model::Event;
+use dn_router::Router;
 use std::alloc::Global;
 use std::test::Fail;
 
