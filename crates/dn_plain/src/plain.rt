@@ -4,18 +4,17 @@
 ghost use Rattle.std.specs.Prelude.{◌≡◌, ◌+◌, ◌<◌, ◌≤◌, ◌++◌, [], ℕ, List, Some, true, length, slice_get, slice_index_or, IfOk, OnOk, OnErr, IsErr};
 ghost use Rattle.dn_model.specs.declared.feed.External.{External};
 ghost use Rattle.dn_model.specs.declared.event.Event.{Event};
-ghost use Rattle.dn_model.specs.Network.{Network, external, externals, routers, tick};
+ghost use Rattle.dn_model.specs.Network.{Network, externals, routers};
 ghost use Rattle.dn_model.specs.Settled.{row_limit, rows};
 ghost use Rattle.dn_lockstep.specs.Agendas.{group_ticks, later_ticks};
 ghost use Rattle.dn_lockstep.specs.Least.{IsUpTo};
 ghost use Rattle.dn_lockstep.specs.Running.{StandsIn};
 ghost use Rattle.dn_lockstep.specs.Steps.{AreInside, IsHandled};
 ghost use Rattle.dn_lockstep.specs.Answers.{answer_after, HasMoved};
-ghost use Rattle.dn_lockstep.specs.Openings.{opening_from};
 
-use dn_guest::{Guest, Input, NoMemory, Node};
-use dn_lockstep::Next;
-use dn_model::{Case, Event, External, Header, Key, Row, emitted, opening, row_limit};
+use dn_guest::{Guest, NoMemory, Node};
+use dn_lockstep::{Next, external, opening_nodes, tick};
+use dn_model::{Case, Event, External, Header, Row, emitted, row_limit};
 use std::alloc::{AllocError, Global};
 use std::marker::Model;
 
@@ -196,60 +195,4 @@ fn push_ticks(events: &mut Vec<Event>, group: u32, routers: u16) -> Result<(), N
         events.push(tick(group, router))?;
     }
     Ok(())
-}
-
-/// The tick of a group at a router.
-fn tick(group: u32, router: u16) -> Event
-    ensures { result ≡ tick group router }
-{
-    Event {
-        key: Key {
-            group,
-            sum: 0,
-            class: 0,
-            tie: 0,
-            origin: router,
-            seq: 0,
-        },
-        router,
-        input: Input::Tick(group),
-    }
-}
-
-/// The event of the external at this place of the feed.
-fn external(alloc: Global, place: u64, item: &External) -> Result<Event, NoMemory>
-    ensures { IfOk result (λ made. made ≡ external place item.now) }
-{
-    Ok(Event {
-        key: Key {
-            group: item.group,
-            sum: 0,
-            class: 1,
-            tie: 0,
-            origin: item.router,
-            seq: place,
-        },
-        router: item.router,
-        input: item.input.copy(alloc)?,
-    })
-}
-
-#[tactic(auto, unfolding(dn_lockstep::specs::Openings::opening_from))]
-/// A node for each guest, the first at router 0.
-fn opening_nodes<G: Guest>(
-    alloc: Global,
-    header: &Header,
-    guests: Vec<G>,
-) -> Result<Vec<Node<G>>, NoMemory>
-    requires one_each { length guests.items ≡ length header.now.routers }
-    requires few { length header.now.routers ≤ 64 }
-    ensures { IfOk result (λ made. made.items ≡ opening_from header.now.links 0 guests.items) }
-{
-    let mut made = Vec::new(alloc);
-    let mut router: u16 = 0;
-    for guest in guests {
-        made.push(opening(alloc, header, router, guest)?)?;
-        router += 1;
-    }
-    Ok(made)
 }
