@@ -19,6 +19,3 @@ mod ends;
 mod shelf;
 
 pub use shelf::Shelf;
-
-#[cfg(test)]
-mod tests;

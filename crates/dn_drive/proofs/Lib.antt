@@ -9,6 +9,5 @@ pub mod Allowing
 pub mod Ending
 pub mod Ways
 pub mod Scheduling
-pub mod TestCases
 pub mod Cutting
 pub mod Journals

@@ -40,6 +40,3 @@ mod taking;
 pub use ended::Ended;
 pub use replaying::replay;
 pub use shaking::shake;
-
-#[cfg(test)]
-mod tests;

@@ -14,4 +14,3 @@ pub mod Commits
 pub mod Whole
 pub mod Turns
 pub mod Settling
-pub mod TestCases

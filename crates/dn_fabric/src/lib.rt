@@ -48,6 +48,3 @@ mod world;
 pub use answer::{Finished, Moved};
 pub use fabric::Fabric;
 pub use work::Work;
-
-#[cfg(test)]
-mod tests;

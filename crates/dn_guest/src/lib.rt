@@ -38,6 +38,3 @@ pub use node::{Node, Sent};
 pub use outbox::{Outbox, Output};
 pub use ports::is_up;
 pub use std::alloc::AllocError as NoMemory;
-
-#[cfg(test)]
-mod tests;

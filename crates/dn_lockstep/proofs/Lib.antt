@@ -10,6 +10,3 @@ pub mod Handling
 pub mod Onward
 pub mod Start
 pub mod Messages
-pub mod TwoRouters
-pub mod GeneratedCases
-pub mod PlainSteps

@@ -38,10 +38,3 @@ pub record IsSound {S : Type 0} (header : Heading) (wiring : List (List End)) (n
   pub last_at : (last ≡ None) ↔ (place ≡ 0)
   pub inside : spent ≡ false → AreInside (length header.routers) (waiting_in plan)
   pub fronted : spent ≡ false → IsFronted plan
-
--- what holds of a run's parts in every state, where what waits is a plain list
-pub record IsPlain {S : Type 0} (header : Heading) (nodes : List (Node S)) (waiting : List Event) (place : ℕ) (spent : Bool) : Type 0 where
-  pub rules : IsHeading header
-  pub one_each : length nodes ≡ length header.routers
-  pub within : place ≤ row_limit
-  pub inside : spent ≡ false → AreInside (length header.routers) waiting

@@ -132,7 +132,7 @@ fn push_ticks(queue: &mut EventQueue, group: u32, routers: u16) -> Result<(), No
 }
 
 /// The tick of a group at a router.
-pub(crate) fn tick(group: u32, router: u16) -> Event
+pub fn tick(group: u32, router: u16) -> Event
     ensures { result ≡ tick group router }
 {
     Event {
@@ -161,7 +161,7 @@ fn queued_externals(alloc: Global, feed: &[External]) -> Result<EventQueue, NoMe
 }
 
 /// The event of the external at this place of the feed.
-pub(crate) fn external(alloc: Global, place: u64, item: &External) -> Result<Event, NoMemory>
+pub fn external(alloc: Global, place: u64, item: &External) -> Result<Event, NoMemory>
     ensures { IfOk result (λ made. made ≡ external place item.now) }
 {
     Ok(Event {

@@ -16,8 +16,9 @@
 //! | `queued.rt` | an event in the reversed order |
 //! | `wiring.rt` | the far ends of each router's ports |
 //! | `opening.rt` | the nodes before the first event |
-//! | `plain.rt` | only in the tests: the same run from one plain list of what waits |
-//! | `generated.rt` | only in the tests: cases made from a number |
+//!
+//! `dn_plain` has the same run from one plain list of what waits, and runs it beside this engine. For it
+//! `external`, `tick` and `opening_nodes` are public.
 //!
 //! The definitions that the contracts cite: `specs/Running.antt` (what an engine is as plain data, and
 //! what it means that it stands after the first rows of a network and a feed) and `specs/Answers.antt`
@@ -37,11 +38,6 @@ mod queued;
 mod step;
 mod wiring;
 
+pub use agenda::{external, tick};
 pub use engine::{Engine, Next};
-
-#[cfg(test)]
-mod generated;
-#[cfg(test)]
-mod plain;
-#[cfg(test)]
-mod tests;
+pub use opening::opening_nodes;

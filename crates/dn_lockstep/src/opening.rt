@@ -9,7 +9,7 @@ use std::alloc::Global;
 
 #[tactic(auto, unfolding(crate::specs::Openings::opening_from))]
 /// A node for each guest, the first at router 0.
-pub(crate) fn opening_nodes<G: Guest>(
+pub fn opening_nodes<G: Guest>(
     alloc: Global,
     header: &Header,
     guests: Vec<G>,

@@ -53,6 +53,3 @@ pub use router::{Kind, Prefix, Prefixes, RouterDef, Routers};
 pub use start::{opening, row_limit};
 pub use ties::{fin, tie};
 pub use timing::Timing;
-
-#[cfg(test)]
-mod tests;

@@ -25,6 +25,3 @@ mod todo;
 
 pub use place::{find, place_after, place_before};
 pub use queue::InQueue;
-
-#[cfg(test)]
-mod tests;

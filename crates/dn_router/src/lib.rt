@@ -39,6 +39,3 @@ mod router;
 
 pub use order::{Applied, Order, Outcome};
 pub use router::Router;
-
-#[cfg(test)]
-mod tests;

@@ -34,6 +34,3 @@ mod step;
 
 pub use packet::Packet;
 pub use step::Step;
-
-#[cfg(test)]
-mod tests;

@@ -1,0 +1,46 @@
+use Rattle.std.proofs.Common.{◌≡◌, false, None, List, ◌++◌, length, sym, ap, ◌∙◌, subst, arith}
+use Rattle.std.specs.List.Sorted.{IsPermutation}
+use Rattle.std.proofs.lemmas.List.Sorted.{IsPermutation-refl}
+use Rattle.dn_model.specs.declared.event.Event.{Event}
+use Rattle.dn_model.specs.declared.feed.External.{External}
+use Rattle.dn_model.specs.Cases.{Heading, Recording, IsHeading}
+use Rattle.dn_model.specs.Network.{externals}
+use Rattle.dn_lockstep.specs.Agendas.{later_ticks}
+use Rattle.dn_lockstep.specs.Running.{StandsIn}
+use Rattle.dn_lockstep.specs.Steps.{AreInside}
+use Rattle.dn_lockstep.proofs.Start.{inside_at_start, stands_at_start, opening_count}
+use Rattle.dn_plain.proofs.plain.PlainEngine.new.Goals as goal
+
+pub invariant_of-result : goal.invariant_of-result
+invariant_of-result g c =
+    let header : c.in_ok-header.header ≡ c.case.inside.header = c.in_ok-header.ensures in
+    let feed : c.as_slice.result.now ≡ c.case.inside.feed = c.as_slice.ensures in
+    let waiting = c.in_ok-waiting.waiting.items in
+    let count : length c.in_ok-nodes.nodes.items ≡ length c.args.guests.items = ap length c.in_ok-nodes.ensures ∙ opening_count c.in_ok-header.header.links 0 c.args.guests.items in
+    let guests : length c.args.guests.items ≡ length c.in_ok-header.header.routers = c.requires ∙ ap (λ (r : Recording). length r.header.routers) (sym c.case.view_is) ∙ ap (λ (h : Heading). length h.routers) (sym header) in
+    let is : waiting ≡ externals 0 c.case.inside.feed ++ later_ticks 0 c.case.inside.header.groups (length c.case.inside.header.routers) =
+    c.in_ok-waiting.ensures ∙ (λ i. externals 0 (feed i) ++ later_ticks 0 (header i).groups (length (header i).routers)) in
+    let whole : IsPermutation (externals 0 c.case.inside.feed ++ later_ticks 0 c.case.inside.header.groups (length c.case.inside.header.routers)) waiting =
+    subst (λ (es : List Event). IsPermutation es waiting) is (IsPermutation-refl waiting) in
+    record {
+      rules = subst IsHeading (sym header) c.case.invariant.header;
+      one_each = count ∙ guests;
+      within = omega arith;
+      inside = λ unspent.
+          subst (λ (h : Heading). AreInside (length h.routers) waiting) (sym header)
+          (inside_at_start (record { header = c.case.inside.header; feed = c.case.inside.feed }) c.case.invariant waiting whole);
+    }
+
+pub returns : goal.returns
+returns g c =
+    λ net same are openings.
+    let case : Recording = record { header = c.case.inside.header; feed = c.case.inside.feed } in
+    let header : c.in_ok-header.header ≡ c.case.inside.header = c.in_ok-header.ensures in
+    let feed : c.as_slice.result.now ≡ c.case.inside.feed = c.as_slice.ensures in
+    let waiting = c.in_ok-waiting.waiting.items in
+    let is : waiting ≡ externals 0 c.case.inside.feed ++ later_ticks 0 c.in_ok-header.header.groups (length c.in_ok-header.header.routers) =
+    c.in_ok-waiting.ensures ∙ ap (λ (xs : List External). externals 0 xs ++ later_ticks 0 c.in_ok-header.header.groups (length c.in_ok-header.header.routers)) feed in
+    let waits : IsPermutation (externals 0 c.case.inside.feed ++ later_ticks 0 c.in_ok-header.header.groups (length c.in_ok-header.header.routers)) waiting =
+    subst (λ (es : List Event). IsPermutation es waiting) is (IsPermutation-refl waiting) in
+    subst (λ (r : Recording). StandsIn net r.feed (record { header = c.in_ok-header.header; nodes = c.in_ok-nodes.nodes.items; waiting = waiting; place = 0; last = None; spent = false })) c.case.view_is
+    (stands_at_start net case c.case.invariant (same ∙ ap (λ (r : Recording). r.header) (sym c.case.view_is)) c.args.guests.items openings c.in_ok-header.header header c.in_ok-nodes.nodes.items c.in_ok-nodes.ensures waiting waits)

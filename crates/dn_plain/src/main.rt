@@ -1,0 +1,78 @@
+//! The engine as the definition says it, and a program that runs it beside `dn_lockstep::Engine`.
+//!
+//! `PlainEngine` keeps all that waits in one list, and looks for the least each time. It has the clauses of
+//! `Engine`, so it is the definition as a program; it is plain and slow, and stays so.
+//!
+//! The program writes a table of cases again. A table holds when output equals input.
+//!
+//! | Lines | What is done |
+//! |---|---|
+//! | a line that begins with `#`, an empty line | nothing, the line is kept |
+//! | `defined 1` and on, up to `end` | this case (docs/FORMATS.md) is the one that the next lines speak of; all of its routers flood |
+//! | `beside` | both engines run the case; they have to answer the same, with the same last row, next row and messages on their way after each row, and the same nodes at the end |
+//! | `rows` | the rows of `Engine` are told |
+//! | `after COUNT` | it is told how `Engine` is after so many rows: the last one and the next one, how many messages each router has sent, and the messages on their way |
+//! | a line that begins with `=` | it is skipped, since the program writes its own: what came of the line before it |
+//!
+//! A line that can't be read is named on standard error, and the status is 2; it is 3 when memory is out, and
+//! 4 when the input can't be read or the output not written.
+//!
+//! | File | What it has |
+//! |---|---|
+//! | `plain.rt` | `PlainEngine` |
+//! | `beside.rt` | both engines beside each other |
+//! | `shown.rt` | what is told of `Engine` |
+//! | `table.rt` | the lines of a table, one after another |
+//!
+//! To add to it: write a table into `tests/dn_plain/`, above each case a comment that says what it shows.
+#![tactic(auto)]
+
+mod beside;
+mod plain;
+mod shown;
+mod table;
+
+use crate::table::{Fault, written_again};
+use dn_guest::Bytes;
+use dn_io::{ReadError, StdSink, StdSource, put_all, read_all};
+use dn_text::push_decimal;
+use std::alloc::{AllocError, Global};
+use std::io::Write;
+use std::process::ExitCode;
+
+/// The most bytes of a table.
+const MOST: u64 = 1_048_576;
+
+/// What a line says on standard error that can't be read.
+fn told(alloc: Global, line: u64) -> Result<Bytes, AllocError> {
+    let mut out = Bytes::from_slice(alloc, b"dn_plain: line ")?;
+    push_decimal(&mut out, line)?;
+    out.push(b'\n')?;
+    Ok(out)
+}
+
+fn main(rt: HostRuntime) -> ExitCode {
+    let alloc = rt.alloc();
+    let mut source = StdSource::new(rt.stdin());
+    let text = match read_all(alloc, &mut source, MOST) {
+        Ok(text) => text,
+        Err(ReadError::NoMemory) => return ExitCode::from(3),
+        Err(_) => return ExitCode::from(4),
+    };
+    match written_again(alloc, text.as_slice()) {
+        Ok(out) => {
+            let mut sink = StdSink::new(rt.stdout());
+            if put_all(&mut sink, out.as_slice()).is_err() {
+                return ExitCode::from(4);
+            }
+            ExitCode::from(0)
+        }
+        Err(Fault::NoMemory) => ExitCode::from(3),
+        Err(Fault::Line(line)) => {
+            if let Ok(line) = told(alloc, line) {
+                let _ = rt.stderr().write(line.as_slice());
+            }
+            ExitCode::from(2)
+        }
+    }
+}
