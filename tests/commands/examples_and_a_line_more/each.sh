@@ -1,0 +1,3 @@
+for case in examples/*.case; do
+    basename "$case" .case
+done
