@@ -5,7 +5,7 @@ from dataclasses import dataclass, field, replace
 from ...nets import mask_of
 from ..routing import MAX_NETWORKS, Routing
 from . import wire
-from .image import image
+from .image import image, read_into
 from .lsa import MAX_AGE, POINT_TO_POINT, ROUTER_LSA, STUB, encode_links, newer
 from .lsdb import Lsdb
 from .receive import receive
@@ -55,6 +55,18 @@ class Ospf(Routing):
     def image(self):
         """Its state in bytes."""
         return image(self)
+
+    @classmethod
+    def of_image(cls, raw):
+        """The router whose image these bytes are; raises `ValueError` where they are none."""
+        router = cls(0, [], [])
+        read_into(router, raw)
+        return router
+
+    @staticmethod
+    def new_port():
+        """A port without a neighbour."""
+        return Port()
 
     # -- sending
 

@@ -1,0 +1,90 @@
+"""What every command has: its arguments, its input and output, and its errors."""
+
+import argparse
+import os
+import signal
+import sys
+from collections.abc import Callable
+from typing import NoReturn
+
+TOP = os.path.dirname(os.path.dirname(os.path.dirname(os.path.abspath(__file__))))
+
+
+class BadInput(Exception):
+    """What is wrong with an input, in words for its writer."""
+
+
+def parser(about: str, example: str, file: str | None = "the input; standard input if it is missing or -"):
+    """An argument parser with -o, an example under --help, and an input file if `file` says what it is."""
+    made = argparse.ArgumentParser(description=about, epilog="example:\n" + indented(example),
+                                   formatter_class=argparse.RawDescriptionHelpFormatter)
+    if file is not None:
+        made.add_argument("file", nargs="?", metavar="FILE", help=file)
+    made.add_argument("-o", "--output", metavar="FILE", help="the output; standard output if it is missing or -")
+    return made
+
+
+def indented(text: str) -> str:
+    """The lines, each moved in by two spaces."""
+    return "\n".join("  " + line for line in text.strip().splitlines())
+
+
+def read(path: str | None) -> bytes:
+    """All bytes of a file, or of standard input if there is no path or it is `-`; raises `BadInput`."""
+    try:
+        if path in (None, "-"):
+            return sys.stdin.buffer.read()
+        with open(path, "rb") as file:
+            return file.read()
+    except (OSError, AttributeError) as error:
+        raise BadInput("can't read %s: %s" % (path or "standard input", reason(error))) from error
+
+
+def write(path: str | None, data: str | bytes) -> None:
+    """Writes text or bytes to a file, or to standard output if there is no path or it is `-`; raises `BadInput`."""
+    raw = data.encode() if isinstance(data, str) else data
+    try:
+        if path in (None, "-"):
+            sys.stdout.buffer.write(raw)
+            sys.stdout.buffer.flush()
+        else:
+            with open(path, "wb") as file:
+                file.write(raw)
+    except (OSError, AttributeError) as error:
+        raise BadInput("can't write %s: %s" % (path or "standard output", reason(error))) from error
+
+
+def reason(error: Exception) -> str:
+    """Why the operating system refused."""
+    return (getattr(error, "strerror", None) or "it is closed").lower()
+
+
+def warn(words: str) -> None:
+    """A line on standard error that doesn't end the tool."""
+    print("%s: %s" % (name(), words), file=sys.stderr)
+
+
+def name() -> str:
+    """The tool's name."""
+    return os.path.basename(sys.argv[0])
+
+
+def program() -> str:
+    """The path of the proved program: the environment's `PROGRAM`, or `./defined` of this repository."""
+    return os.environ.get("PROGRAM", os.path.join(TOP, "defined"))
+
+
+def run(main: Callable[[], int | None]) -> NoReturn:
+    """Runs a tool and ends with its status: 1 for a bad input, 130 if it is interrupted.
+
+    A reader that has gone away ends it as any other program of a pipe.
+    """
+    if hasattr(signal, "SIGPIPE"):
+        signal.signal(signal.SIGPIPE, signal.SIG_DFL)
+    try:
+        sys.exit(main() or 0)
+    except BadInput as bad:
+        warn(str(bad))
+        sys.exit(1)
+    except KeyboardInterrupt:
+        sys.exit(130)
