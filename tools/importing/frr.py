@@ -8,7 +8,7 @@ and so is a loopback's address. Whether a subnet is told at all is said by `netw
 import ipaddress
 import os
 import re
-from dataclasses import dataclass, field
+from dataclasses import dataclass, field, replace
 from itertools import combinations
 
 from library.tool import BadInput
@@ -72,7 +72,7 @@ def read(paths: list[str], settings: Settings) -> Network:
     routers = [read_router(name, files) for name, files in router_files(paths)]
     if not routers:
         raise BadInput("no configuration: name frr.conf files, or a folder that has one folder for each router")
-    network = Network(settings)
+    network = Network(replace(settings, networks=False))
     for place, router in enumerate(routers):
         name = network.add_router(str(place), router.name, router.kind(settings)).name
         for text in router.notes:

@@ -3,10 +3,10 @@
 import math
 from typing import Any
 
+from library.commands import read_net
 from library.tool import BadInput
 
 from .network import Network, Settings
-from .words import network_of
 
 EARTH_RADIUS_KM = 6371.0
 FIBRE_KM_A_SECOND = 200_000.0
@@ -51,12 +51,12 @@ def take_prefix(network: Network, key: Any, text: str) -> None:
     """A prefix `A.B.C.D/LEN` or `A.B.C.D/LEN COST` of a node."""
     fields = text.split()
     try:
-        net = network_of(fields[0])
+        address, length = read_net(fields[0])
         cost = int(fields[1]) if len(fields) > 1 else 1
     except (BadInput, ValueError, IndexError) as fault:
         network.note(f"{network.nodes[key].name}: prefix {text!r}: {fault}")
         return
-    network.add_prefix(key, int(net.network_address), net.prefixlen, cost)
+    network.add_prefix(key, address, length, cost)
 
 
 def links_of(network: Network, graph: Any) -> list[tuple[Any, Any, dict[str, Any]]]:

@@ -4,11 +4,14 @@ import re
 import unicodedata
 from dataclasses import dataclass, field
 
+from library.commands import net as net_text
 from library.tool import BadInput
 from model import case as limits
 from model.case import Case, Router
 from model.casetext import Fault, read_case, write_case
 from model.nets import has_host_bits
+
+from .words import externals_of
 
 
 @dataclass(frozen=True)
@@ -142,11 +145,6 @@ def clamp(number: int, least: int, greatest: int) -> int:
     return max(least, min(greatest, number))
 
 
-def net_text(address: int, length: int) -> str:
-    """`A.B.C.D/LEN`."""
-    return ".".join(str(byte) for byte in address.to_bytes(4, "big")) + f"/{length}"
-
-
 def case_name(label: str, taken: set[str]) -> str:
     """A name of 1 to 16 of a to z and 0 to 9, a letter first, that isn't taken."""
     plain = unicodedata.normalize("NFKD", label).encode("ascii", "ignore").decode().lower()
@@ -181,8 +179,6 @@ def keep_around(network: Network, name: str) -> None:
 
 def case_text(network: Network) -> bytes:
     """The case text of a network; raises `BadInput` if no case holds it."""
-    from .words import externals_of
-
     if network.settings.around:
         keep_around(network, network.settings.around)
     if not network.nodes:

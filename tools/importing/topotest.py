@@ -4,12 +4,13 @@
 A link of the type `loopback` is a network of its router. Interfaces have their OSPF cost in `ospf`.
 """
 
+from dataclasses import replace
 from typing import Any
 
+from library.commands import read_net
 from library.tool import BadInput
 
 from .network import Network, Settings
-from .words import network_of
 
 # What says how the test is set up, and what our links don't have: addresses, since they are unnumbered.
 SILENT_KEYS = {"ipv4", "ipv6", "type", "ospf", "link", "peer-interface"}
@@ -21,7 +22,7 @@ def read(data: dict[str, Any], settings: Settings) -> Network:
     routers = data.get("routers")
     if not isinstance(routers, dict) or not all(isinstance(one, dict) for one in routers.values()):
         raise BadInput('this is no topology of a topotest: it has no "routers" that are objects')
-    network = Network(settings)
+    network = Network(replace(settings, networks=False))
     for name, router in routers.items():
         note_router(network, network.add_router(name, name, kind_of(router, settings)).name, router)
     for name, router in routers.items():
@@ -131,8 +132,8 @@ def take_loopbacks(network: Network, routers: dict[str, Any], prefix: dict[str, 
                 digits = "".join(letter for letter in name if letter.isdigit()) or "0"
                 text = f"{prefix.get('ipv4', '1.0.')}{int(digits)}.{ord(name[0].lower()) - 97}/{prefix.get('v4mask', 32)}"
             try:
-                net = network_of(text)
+                address, length = read_net(text)
             except BadInput as fault:
                 network.note(f"{network.nodes[name].name}: loopback {text}: {fault}")
                 continue
-            network.add_prefix(name, int(net.network_address), net.prefixlen, 1)
+            network.add_prefix(name, address, length, 1)
