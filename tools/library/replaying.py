@@ -45,15 +45,15 @@ def taken_rows(run: Run) -> Iterator[Taken]:
         yield Taken(row, node, reason or reason_after(node.guest, row))
 
 
-def differing_states(run: Run, nodes: list[Node]) -> list[int]:
+def differing_states(run: Run, nodes: dict[int, Node]) -> list[int]:
     """The routers whose final state in the trace isn't the one that the model came to."""
     return [state.router for state in run.states
-            if (state.sends, state.mask, state.image) != final_state(nodes[state.router])]
+            if (state.sends, state.mask, state.image) != final_state(nodes.get(state.router))]
 
 
-def final_state(node: Node) -> tuple[int, int, bytes]:
+def final_state(node: Node | None) -> tuple[int, int, bytes] | None:
     """The parts of a node's state line."""
-    return node.sends, node.mask, node.guest.image()
+    return None if node is None else (node.sends, node.mask, node.guest.image())
 
 
 # -- what is passed over
