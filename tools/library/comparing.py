@@ -23,17 +23,21 @@ LEAST_WIDTH = 40
 
 @dataclass
 class Side:
-    """A run, what it is called, and its rows without their ties."""
+    """A run, what it is called, its rows as they are compared, and these rows without their ties."""
 
     name: str
     run: Run
+    rows: list[Row]
     bare: list[tuple]
 
     @classmethod
-    def of(cls, name: str, run: Run) -> "Side":
-        """The side of a run."""
+    def of(cls, name: str, run: Run, is_any_order: bool = False) -> "Side":
+        """The side of a run; if any order of the rows of a moment is good, they are put in that which seed 0 gives."""
         names = run.network.names
-        return cls(name, run, [bare_row(names, row) for row in run.rows])
+        found = [(bare_row(names, row), row) for row in run.rows]
+        if is_any_order:
+            found.sort(key=lambda pair: pair[0])
+        return cls(name, run, [row for _, row in found], [bare for bare, _ in found])
 
     def words(self, row: Row) -> str:
         """A row in a line."""
@@ -93,7 +97,7 @@ def side_by_side(one: Side, other: Side, place: int, layout: Layout) -> Iterator
     """The rows before the first that differs, and those from it on."""
     yield layout.line(one.name, SAME, other.name).rstrip()
     for number in range(max(0, place - layout.before), place):
-        yield layout.line(one.words(one.run.rows[number]), SAME, other.words(other.run.rows[number])).rstrip()
+        yield layout.line(one.words(one.rows[number]), SAME, other.words(other.rows[number])).rstrip()
     count = 0
     for left, mark, right in pairs(one, other, place):
         if count == layout.lines:
@@ -121,8 +125,8 @@ def moment_pairs(one: Side, other: Side, left: list[int], right: list[int]) -> I
     matcher = difflib.SequenceMatcher(None, [one.bare[n] for n in left], [other.bare[n] for n in right], False)
     for kind, a, b, c, d in matcher.get_opcodes():
         for step in range(max(b - a, d - c)):
-            here = one.run.rows[left[a + step]] if a + step < b else None
-            there = other.run.rows[right[c + step]] if c + step < d else None
+            here = one.rows[left[a + step]] if a + step < b else None
+            there = other.rows[right[c + step]] if c + step < d else None
             mark = SAME if kind == "equal" else LEFT if there is None else RIGHT if here is None else CHANGED
             yield here, mark, there
 

@@ -245,21 +245,23 @@ def illegal_words(told: Told, data: bytes) -> list[str]:
 
 
 def open_words(_: Told, data: bytes) -> list[str]:
-    """`open`, of `rerun`; of `shake` there is no journal in the input."""
-    case, length = casetext.read_case(data)
-    if length + trace.split_trace(data[length:]) == len(data):
-        return ["the steps ended before the run did; shake takes at most as many as --steps says: give it more "
-                "(--steps 1000000 is the most)"]
-    case, steps, _ = steps_of(data)
-    ending, number = replay.rerun(case, steps)
-    if ending != "open":
-        raise BadInput("the line isn't about this input: its steps end %s" % (
-            "the run" if ending == "ok" else "at the cut" if ending == "cut" else "at step %d, which is illegal" % number))
+    """`open`, of `rerun` if a journal is there whose steps leave the run open, else of `shake`."""
+    case, text = section_of(data).case, section_of(data).text
+    try:
+        steps = journal.read_journal(case, text)
+    except journal.JournalFault:
+        return SHAKEN
+    if replay.rerun(case, steps)[0] != "open":
+        return SHAKEN
     walk = Walk.begin(case)
     for step in steps:
         walk.world.take(step)
     return ["all %d steps may be taken, and they don't come to the end of the run; what is left:" % len(steps),
             *walk.left()]
+
+
+SHAKEN = ["the steps ended before the run did; shake takes at most as many as --steps says: give it more "
+          "(--steps 1000000 is the most)"]
 
 
 # -- traces
