@@ -153,7 +153,7 @@ MADE = (
      ["a journal follows the trace"]),
     ("another byte", "check", example("two_routers").decode().replace("msg 0 41", "msg 0 42"),
      "differs at %d" % (example("two_routers").index(b"msg 0 41") + 7),
-     ["line 16 of the input", '"2" at column 39: "0 10 m', '"1" at column 39: "0 10 m']),
+     ["line 16 of the input", '"2" at column 38: "0 10 m', '"1" at column 38: "0 10 m']),
     ("cut short", "check", example("smallest").decode()[:-1], "differs at %d" % (len(example("smallest")) - 1),
      ["isn't whole"]),
     ("words", "runs", "", "usage", ["defined shake NUMBER --steps M"]),
