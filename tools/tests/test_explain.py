@@ -227,6 +227,17 @@ class Command(unittest.TestCase):
         self.assertEqual(done.returncode, 1)
         self.assertNotIn(b"Traceback", done.stderr)
 
+    def test_closed_streams(self):
+        """Closed and full streams are said in one line by each tool."""
+        output = "%s/smallest.out" % EXAMPLES
+        for words, status in (("explain <&-", 1), ("pcap <&-", 1), ("why line 1: ended <&-", 1),
+                              ("compare - %s <&-" % output, 2), ("explain %s >&-" % output, 1),
+                              ("pcap %s >&-" % output, 1), ("pcap %s > /dev/full" % output, 1),
+                              ("compare %s %s >&-" % (output, output), 2), ("why usage >&-", 1),
+                              ("why usage > /dev/full", 1)):
+            done = subprocess.run(["bash", "-c", "%s/%s" % (TOOLS, words)], capture_output=True, check=False)
+            self.assertEqual((done.returncode, done.stderr.count(b"\n")), (status, 1), (words, done.stderr))
+
     def test_many_rows(self):
         """20,000 rows in some seconds."""
         feed = "".join("@%d r%d cmd %04x\n" % (number // 10, number % 40, number) for number in range(480))
