@@ -108,7 +108,8 @@ class Rows(unittest.TestCase):
                                                               and row.input == MSG],
                   ("--kind", "hello"): [row for row in run.rows if row.body[1:2] == b"\1"]}
         for words, rows in wanted.items():
-            self.assertEqual(rows_of(explained(text, *words, "--no-states")), [everything[row.number - 1] for row in rows])
+            expected = [everything[row.number - 1] for row in rows]
+            self.assertEqual(rows_of(explained(text, *words, "--no-states")), expected)
         self.assertEqual(rows_of(explained(text, "--no-rows")), [])
 
     def test_examples_and_generated(self):
@@ -191,7 +192,8 @@ class Command(unittest.TestCase):
 
     def test_bad(self):
         """Bad inputs and arguments."""
-        for words, text, told in (([], b"", b"begins with no case"), ([], example("smallest", ".case"), b"neither a trace"),
+        for words, text, told in (([], b"", b"begins with no case"),
+                                  ([], example("smallest", ".case"), b"neither a trace"),
                                   (["--router", "z"], example("smallest"), b"no router is called z"),
                                   (["--group", "x"], example("smallest"), b"--group is N"),
                                   (["--journal"], example("smallest"), b"no journal"),
