@@ -37,13 +37,12 @@ class Packet:
 
 
 def ones_sum(data):
-    """The one's complement sum of the words of 16 bits (RFC 1071)."""
-    if len(data) % 2:
-        data += b"\0"
-    total = sum(data[0::2]) * 256 + sum(data[1::2])
-    while total > 0xFFFF:
-        total = (total >> 16) + (total & 0xFFFF)
-    return total
+    """The one's complement sum of the words of 16 bits (RFC 1071).
+
+    It is their plain sum modulo 65,535, as 65,536 is 1, and 0 only where all words are 0.
+    """
+    total = int.from_bytes(data + b"\0" * (len(data) % 2), "big")
+    return (total - 1) % 0xFFFF + 1 if total else 0
 
 
 def checksum(packet):
