@@ -3,6 +3,7 @@
 import { firstFrom } from "chart/timeline";
 
 export const BY_ROWS = "rows", BY_TIME = "time";
+const NARROWEST = 8;
 
 // The layout of all runs: per run the visible rows, their positions and those at which they were sent, the place of
 // each row among the visible ones (-1: hidden), the greatest distance between both positions, and the whole extent.
@@ -74,7 +75,7 @@ export function columnsOf(count, hidden, width, wanted) {
   const shown = [];
   for (let router = 0; router < count; router++) if (!hidden.has(router)) shown.push(router);
   const fit = width / Math.max(1, shown.length);
-  const step = wanted > 0 ? Math.max(wanted, 8) : Math.max(fit, 11);
+  const step = wanted > 0 ? Math.max(wanted, NARROWEST) : Math.max(fit, NARROWEST);
   const x = new Map(shown.map((router, place) => [router, (place + 0.5) * step]));
   return { shown, x, step, width: step * shown.length };
 }

@@ -30,7 +30,7 @@ export function start(data) {
   const overview = new Overview(byId("overview"), view);
   view.afterPaint.push(overview);
   byId("title").textContent = data.title;
-  if (window.innerWidth < 700) byId("panel").classList.add("away");
+  if (window.innerWidth < 900) document.querySelectorAll("#panel details").forEach((part) => part.removeAttribute("open"));
   makeKinds(page);
   makeRouters(page);
   makeHelp();
@@ -44,8 +44,8 @@ export function start(data) {
 }
 
 function onChange(page, view) {
-  byId("scale").textContent = view.state.scale === BY_TIME ? "seconds" : "rows";
-  byId("texts").setAttribute("aria-pressed", String(view.state.texts));
+  byId("scale").textContent = view.state.scale === BY_TIME ? "by seconds" : "by rows";
+  byId("texts").setAttribute("aria-pressed", String(view.hasTexts()));
   showFound(view);
   showDetails(page, view);
   if (page === undefined || page.waits) return;

@@ -6,8 +6,11 @@ import { AGAIN, PORT_DOWN, SENT_AGAIN, firstFrom, seconds } from "chart/timeline
 
 const FONT = "12px system-ui, 'DejaVu Sans', sans-serif";
 const SMALL = "11px system-ui, 'DejaVu Sans', sans-serif";
-const READABLE = 13, PLAIN = 4, MOST_ARROWS = 6000;
-const HEAD = 7;
+const PLAIN = 4, MOST_ARROWS = 6000;
+const HEAD = 7, NAME_PITCH = 12;
+
+// The least height of a row at which its text is drawn.
+export const READABLE = 13;
 
 // `pane` is {x, width, gutter, columnsWidth, textX, columns, run, rows, at, tail, places, span, name};
 // `frame` {data, state, height, header, isDark, matches}.
@@ -99,6 +102,9 @@ function paintRows(context, pane, frame, theme, sight) {
     for (let i = sight.first; i < sight.reach; i++) {
       if (pane.tail[i] <= sight.bottom) paintRow(context, pane, frame, theme, i);
     }
+  }
+  if (pane.chosen !== null && pane.places[pane.chosen] >= 0) {
+    paintRow(context, pane, frame, theme, pane.places[pane.chosen]);
   }
 }
 
@@ -321,7 +327,9 @@ function clippedHead(context, pane, frame, paint) {
 function paintNames(context, pane, frame, theme) {
   context.font = FONT;
   context.fillStyle = theme.text;
-  for (const router of pane.columns.shown) {
+  const every = frame.isUpright ? Math.ceil(NAME_PITCH / pane.columns.step) : 1;
+  for (let place = 0; place < pane.columns.shown.length; place += every) {
+    const router = pane.columns.shown[place];
     const x = xOf(pane, frame, router), name = frame.data.routers[router].name;
     if (frame.isUpright) {
       context.save();

@@ -2,7 +2,7 @@
 // and knows nothing of the page around it: `onChange` is called when its state changes, and `state` and `setState`
 // give and take all that another page needs to show the same.
 
-import { NAME_FONT, paintPane, yOf } from "chart/paint";
+import { NAME_FONT, READABLE, paintPane, yOf } from "chart/paint";
 import { BY_ROWS, BY_TIME, columnsOf, layOut } from "chart/layout";
 import { Timeline, firstFrom, matchingTexts } from "chart/timeline";
 
@@ -72,15 +72,22 @@ export class ChartView {
   // -- geometry
 
   headerHeight() {
-    return (this.isUpright() ? 84 : 26) + (this.runs.length > 1 ? 16 : 0);
+    return (this.isUpright() ? this.widestName() + 16 : 26) + (this.runs.length > 1 ? 16 : 0);
   }
 
   // Whether the columns are too narrow for the names.
   isUpright() {
-    const context = this.canvas.getContext("2d");
-    context.font = NAME_FONT;
-    const widest = Math.max(...this.data.routers.map((router) => context.measureText(router.name).width));
-    return widest + 8 > this.columns().step;
+    return this.widestName() + 8 > this.columns().step;
+  }
+
+  // The width of the widest name, in pixels.
+  widestName() {
+    if (this.widest === undefined) {
+      const context = this.canvas.getContext("2d");
+      context.font = NAME_FONT;
+      this.widest = Math.max(24, ...this.data.routers.map((router) => context.measureText(router.name).width));
+    }
+    return this.widest;
   }
 
   paneWidth() {
@@ -88,7 +95,7 @@ export class ChartView {
   }
 
   hasTexts() {
-    return this.state.texts && this.state.scale === BY_ROWS && this.paneWidth() >= TEXT_FROM;
+    return this.state.texts && this.state.scale === BY_ROWS && this.state.zoom >= READABLE && this.paneWidth() >= TEXT_FROM;
   }
 
   columnsWidth() {
