@@ -8,6 +8,8 @@ const FONT = "12px system-ui, 'DejaVu Sans', sans-serif";
 const SMALL = "11px system-ui, 'DejaVu Sans', sans-serif";
 const PLAIN = 4, MOST_ARROWS = 6000;
 const HEAD = 7, NAME_PITCH = 12;
+// With more arrows than these in sight, those that end below it are faint.
+const CROWD = 120, PASSING = 0.12;
 
 // The least height of a row at which its text is drawn.
 export const READABLE = 13;
@@ -99,9 +101,13 @@ function paintRows(context, pane, frame, theme, sight) {
   } else if (zoom < PLAIN) {
     paintLines(context, pane, frame, sight);
   } else {
-    for (let i = sight.first; i < sight.reach; i++) {
+    const alpha = sight.reach - sight.first > CROWD ? PASSING : 1;
+    for (let i = sight.last; i < sight.reach; i++) {
+      context.globalAlpha = alpha;
       if (pane.tail[i] <= sight.bottom) paintRow(context, pane, frame, theme, i);
     }
+    context.globalAlpha = 1;
+    for (let i = sight.first; i < sight.last; i++) paintRow(context, pane, frame, theme, i);
   }
   if (pane.chosen !== null && pane.places[pane.chosen] >= 0) {
     paintRow(context, pane, frame, theme, pane.places[pane.chosen]);
@@ -110,11 +116,11 @@ function paintRows(context, pane, frame, theme, sight) {
 
 // Very many rows: a dot a row, and one alone of those that would cover each other.
 function paintDots(context, pane, frame, sight) {
-  let last = "";
+  const taken = new Set();
   for (let i = sight.first; i < sight.last; i++) {
-    const row = pane.rows[i], y = Math.round(yOf(frame, pane.at[i])), spot = y + " " + pane.run.router[row];
-    if (spot === last) continue;
-    last = spot;
+    const row = pane.rows[i], y = Math.round(yOf(frame, pane.at[i])), spot = y * 1024 + pane.run.router[row];
+    if (taken.has(spot)) continue;
+    taken.add(spot);
     context.fillStyle = kindColour(kindName(frame, pane.run, row), frame.isDark);
     context.fillRect(xOf(pane, frame, pane.run.router[row]) - 2, y, 4, 1.5);
   }
@@ -153,7 +159,9 @@ function paintRow(context, pane, frame, theme, i) {
   context.strokeStyle = context.fillStyle = colour;
   context.lineWidth = pane.chosen === row ? 2.4 : 1.3;
   if (run.sender[row] >= 0) {
-    paintArrow(context, xOf(pane, frame, run.sender[row]), yOf(frame, pane.tail[i]), x, y, kindDashes(kind));
+    const from = [xOf(pane, frame, run.sender[row]), yOf(frame, pane.tail[i])];
+    if (pane.chosen === row) paintHalo(context, ...from, x, y, theme);
+    paintArrow(context, ...from, x, y, kindDashes(kind));
     paintLabel(context, pane, frame, theme, i, colour);
   } else {
     paintGlyph(context, kind, x, y);
@@ -161,6 +169,18 @@ function paintRow(context, pane, frame, theme, i) {
   if (run.isLost(row)) paintCross(context, x, y, theme.text);
   if (run.flags[row] & PORT_DOWN) paintCross(context, x, y, kindColour("down", frame.isDark));
   if (run.flags[row] & (AGAIN | SENT_AGAIN)) paintRing(context, x, y, theme.text);
+}
+
+// What sets the chosen arrow off from those that it crosses.
+function paintHalo(context, x0, y0, x1, y1, theme) {
+  context.save();
+  context.strokeStyle = theme.chosen;
+  context.lineWidth = 9;
+  context.beginPath();
+  context.moveTo(x0, y0);
+  context.lineTo(x1, y1);
+  context.stroke();
+  context.restore();
 }
 
 function paintArrow(context, x0, y0, x1, y1, dashes) {
@@ -191,9 +211,7 @@ function paintLabel(context, pane, frame, theme, i, colour) {
   const left = x0 < x1 ? x1 - HEAD - 5 - width : x1 + HEAD + 5;
   const y = yOf(frame, pane.at[i]);
   context.fillStyle = theme.ground;
-  context.globalAlpha = 0.85;
   context.fillRect(left, y - 6, width, 12);
-  context.globalAlpha = 1;
   context.fillStyle = colour;
   context.textAlign = "left";
   context.textBaseline = "middle";
@@ -234,7 +252,7 @@ function paintRing(context, x, y, colour) {
 
 // -- beside the rows
 
-// The time at the first row of each moment, and the rows' numbers, as far as there is room.
+// The time at the first row in sight and of each moment, and the rows' numbers, as far as there is room.
 function paintGutter(context, pane, frame, theme, sight) {
   context.fillStyle = theme.ground;
   context.fillRect(pane.x, frame.header, pane.gutter - 4, frame.height - frame.header);
@@ -244,7 +262,8 @@ function paintGutter(context, pane, frame, theme, sight) {
   let lastTime = -Infinity, lastNumber = -Infinity;
   for (let i = sight.first; i < sight.last; i++) {
     const row = pane.rows[i], y = yOf(frame, pane.at[i]), number = pane.run.number[row];
-    const isNew = i === 0 || pane.run.moment[pane.rows[i - 1]] !== pane.run.moment[row];
+    if (y < frame.header + 6) continue;
+    const isNew = lastTime === -Infinity || pane.run.moment[pane.rows[i - 1]] !== pane.run.moment[row];
     if (isNew && y - lastTime >= 13) {
       paintTime(context, pane, frame, theme, y, pane.run.moment[row]);
       lastTime = y;

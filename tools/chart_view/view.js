@@ -6,7 +6,7 @@ import { NAME_FONT, READABLE, paintPane, yOf } from "chart/paint";
 import { BY_ROWS, BY_TIME, columnsOf, layOut } from "chart/layout";
 import { Timeline, firstFrom, matchingTexts } from "chart/timeline";
 
-const GUTTER = 112, LEAST_ZOOM = 0.002, ROW_ZOOM = 18, TEXT_FROM = 700, LEAST_COLUMNS = 0.45;
+const SIGHT_ROWS = 30, GUTTER = 112, LEAST_ZOOM = 0.002, ROW_ZOOM = 18, TEXT_FROM = 700, LEAST_COLUMNS = 0.45;
 
 export class ChartView {
   constructor(canvas, data, onChange) {
@@ -183,11 +183,19 @@ export class ChartView {
   }
 
   setScale(scale) {
-    const chosen = this.state.chosen, first = this.rowAtTop();
+    const spot = this.state.chosen || this.rowAtTop();
     this.setState({ scale });
-    this.state.zoom = scale === BY_TIME ? Math.max(60, this.sightHeight() / this.layout.extent) : ROW_ZOOM;
-    if (chosen !== null) this.show(chosen);
-    else if (first !== null) this.scrollTo(this.positionOf(first));
+    this.state.zoom = scale === BY_TIME ? this.zoomOfTime(spot) : ROW_ZOOM;
+    if (this.state.chosen !== null) this.show(spot);
+    else if (spot !== null) this.scrollTo(this.positionOf(spot));
+  }
+
+  // The zoom at which some rows from a spot on are in sight; never less than the whole run.
+  zoomOfTime(spot) {
+    const { rows, at, places } = this.layout.panes[spot === null ? 0 : spot.run];
+    const first = Math.max(0, spot === null ? 0 : places[spot.row]), last = Math.min(rows.length - 1, first + SIGHT_ROWS);
+    const span = last > first ? at[last] - at[first] : 0;
+    return this.sightHeight() / Math.min(this.layout.extent, Math.max(span * 1.2, 1e-3));
   }
 
   rowAtTop() {
