@@ -1,5 +1,6 @@
 """A case, its trace and its journal, read from text into records."""
 
+import re
 from dataclasses import dataclass, field
 
 from model import casetext, journal, trace
@@ -11,6 +12,9 @@ from .network import Network
 from .tool import BadInput
 
 CLASSES = {b"t": 0, b"x": 1, b"m": 2}
+NUMBER = rb"(0|[1-9][0-9]{0,19})"
+ROW = re.compile(rb"N N ([txm]) ([0-9a-f]{16}) N N ([a-z0-9]+) (?:(tick)|(cmd) ([0-9a-f]+)|(down|up) N|(msg) N ([0-9a-f]+|-))"
+                 .replace(b"N", NUMBER))
 ROW_SHAPE = "a row is GROUP SUM CLASS TIE ORIGIN SEQ NAME INPUT"
 STATE_SHAPE = "a state is: state NAME SENDS MASK IMAGE"
 
@@ -198,37 +202,31 @@ def read_ending(run: Run, line: bytes, number: int) -> None:
 
 def read_row(line: bytes, place: int, number: int, names: dict, ports: list[int]) -> Row:
     """A row of a trace; raises `BadInput` with what is wrong with the line."""
-    fields = line.split(b" ")
-    if len(fields) < 8 or fields[2] not in CLASSES:
+    found = ROW.fullmatch(line)
+    if found is None:
         raise BadInput("line %d: %s, but this is %s" % (number, ROW_SHAPE, quoted(line)))
-    numbers = [decimal(fields[spot]) for spot in (0, 1, 4, 5)]
-    router, tie = names.get(fields[6]), fields[3]
-    if None in numbers or len(tie) != 16 or unhex(tie) is None:
-        raise BadInput("line %d: %s, and a number of this one isn't right: %s" % (number, ROW_SHAPE, quoted(line)))
-    if router is None or numbers[2] >= len(ports):
+    group, total, kind, tie, origin, seq, name = found.group(1, 2, 3, 4, 5, 6, 7)
+    router = names.get(name)
+    if router is None or int(origin) >= len(ports):
         raise BadInput("line %d: the case has no such router: %s" % (number, quoted(line)))
-    entry = read_input(fields, numbers[0], ports[router])
+    entry = read_input(found, int(group), ports[router])
     if entry is None:
-        raise BadInput("line %d: %s has no such input: %s" % (number, fields[6].decode(), quoted(line)))
-    key = (numbers[0], numbers[1], CLASSES[fields[2]], int(tie, 16), numbers[2], numbers[3])
+        raise BadInput("line %d: %s has no such input: %s" % (number, name.decode(), quoted(line)))
+    key = (int(group), int(total), CLASSES[kind], int(tie, 16), int(origin), int(seq))
     return Row(place, number, (key, router, entry))
 
 
-def read_input(fields: list[bytes], group: int, ports: int) -> tuple | None:
-    """The input of a row's fields for a router with so many ports, or None."""
-    word, last = fields[7], fields[8:]
-    if (fields[2], word, last) == (b"t", b"tick", []):
-        return TICK, group, b""
-    if fields[2] == b"x" and word == b"cmd" and len(last) == 1:
-        body = unhex(last[0])
-        return None if body is None else (CMD, 0, body)
-    if not last or (port := decimal(last[0])) is None or port >= ports:
-        return None
-    if fields[2] == b"x" and word in (b"down", b"up") and len(last) == 1:
-        return (DOWN if word == b"down" else UP), port, b""
-    if fields[2] == b"m" and word == b"msg" and len(last) == 2:
-        body = b"" if last[1] == b"-" else unhex(last[1])
-        return None if body is None else (MSG, port, body)
+def read_input(found: re.Match, group: int, ports: int) -> tuple | None:
+    """The input of a row for a router with so many ports, or None if it isn't of the row's class."""
+    kind, tick, command, command_body, change, change_port, message, port, body = found.group(3, *range(8, 16))
+    if tick:
+        return (TICK, group, b"") if kind == b"t" else None
+    if command and kind == b"x" and len(command_body) % 2 == 0:
+        return CMD, 0, bytes.fromhex(command_body.decode())
+    if change and kind == b"x" and int(change_port) < ports:
+        return (DOWN if change == b"down" else UP), int(change_port), b""
+    if message and kind == b"m" and int(port) < ports and (body == b"-" or len(body) % 2 == 0):
+        return MSG, int(port), b"" if body == b"-" else bytes.fromhex(body.decode())
     return None
 
 

@@ -4,7 +4,7 @@ import argparse
 import os
 import signal
 import sys
-from collections.abc import Callable
+from collections.abc import Callable, Iterable
 from typing import NoReturn
 
 TOP = os.path.dirname(os.path.dirname(os.path.dirname(os.path.abspath(__file__))))
@@ -50,6 +50,19 @@ def write(path: str | None, data: str | bytes) -> None:
         else:
             with open(path, "wb") as file:
                 file.write(raw)
+    except (OSError, AttributeError) as error:
+        raise BadInput("can't write %s: %s" % (path or "standard output", reason(error))) from error
+
+
+def write_lines(path: str | None, lines: Iterable[str]) -> None:
+    """Writes lines as they come, each with a newline, as `write` does."""
+    try:
+        file = sys.stdout if path in (None, "-") else open(path, "w", encoding="utf-8")  # noqa: SIM115
+        for line in lines:
+            file.write(line + "\n")
+        file.flush()
+        if file is not sys.stdout:
+            file.close()
     except (OSError, AttributeError) as error:
         raise BadInput("can't write %s: %s" % (path or "standard output", reason(error))) from error
 

@@ -56,15 +56,15 @@ class Lsdb:
 
     def age_out(self, now):
         """Sets the LSAs that come to MaxAge now to it; gives their names in order."""
-        keys = [key for key in sorted(self.map)
-                if self.map[key].lsa.head.age < MAX_AGE and self.age(key, now) == MAX_AGE]
+        keys = sorted([key for key, kept in self.map.items()
+                       if kept.lsa.head.age < MAX_AGE and self.age(key, now) == MAX_AGE])
         for key in keys:
             self.flush(key, now)
         return keys
 
     def at_max_age(self):
         """The names of the LSAs that are kept at MaxAge, in order."""
-        return sorted(key for key, kept in self.map.items() if kept.lsa.head.age == MAX_AGE)
+        return sorted([key for key, kept in self.map.items() if kept.lsa.head.age == MAX_AGE])
 
     def originate(self, router, body, now):
         """Installs the router's own LSA anew; False where it stands at the last sequence number."""

@@ -1,6 +1,7 @@
 """OSPF packets (appendix A)."""
 
 from dataclasses import dataclass
+from functools import lru_cache
 
 from ...octets import number, packed
 from .lsa import HEAD_SIZE, Lsa, decode_head
@@ -76,6 +77,7 @@ def encode_ack(router, heads):
 BODIES = {HELLO: "a Hello", UPDATE: "an Update", ACK: "an Acknowledgement"}
 
 
+@lru_cache(maxsize=1024)
 def decode(raw):
     """The packet, or None where the bytes aren't one of the grammar."""
     if head_fault(raw) is not None:
