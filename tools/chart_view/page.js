@@ -3,11 +3,11 @@
 import { kindColour } from "chart/colours";
 import { BY_ROWS, BY_TIME } from "chart/layout";
 import { Overview } from "chart/overview";
-import { AGAIN, PORT_DOWN, SENT_AGAIN, TAKEN_BACK, UNSENT, seconds } from "chart/timeline";
+import { AGAIN, SENT_AGAIN, TAKEN_BACK, UNSENT, seconds } from "chart/timeline";
 import { ChartView } from "chart/view";
 
 const FLAG_WORDS = [
-  [PORT_DOWN, "passed over: its port is down"], [AGAIN, "taken back, and handled again"],
+  [AGAIN, "taken back, and handled again"],
   [SENT_AGAIN, "unsent, and sent again"], [TAKEN_BACK, "taken back, and not handled again"],
   [UNSENT, "unsent, and not sent again"],
 ];
@@ -19,7 +19,7 @@ const HELP = [
   ["Home End", "the beginning, the end"], ["Esc", "no row, no search"],
   ["wheel", "moves; with Ctrl zooms, with Shift goes sideways"],
   ["\u25CF \u25C6", "tick, command"], ["\u25BC \u25B2", "a port goes down, up"],
-  ["\u2715", "passed over, or taken back"], ["\u25CB", "taken back or unsent, and come again"],
+  ["\u00D7 small", "passed over"], ["\u2715 large", "taken back or unsent"], ["\u25CB", "taken back or unsent, and come again"], ["R", "changed the router's routes"],
 ];
 
 const byId = (id) => document.getElementById(id);
@@ -104,13 +104,15 @@ function told(view, { run: index, row }) {
   return parts;
 }
 
-// A text, its parts behind the colon and the steps in brackets as lists.
+// A text: what came, its parts behind the colon as a list, the routes that it changed (in braces), and what a journal
+// says of it (in brackets).
 function textParts(text) {
-  const [, words, steps] = /^(.*?)(?: \[([^\]]*step[^\]]*)\])?$/.exec(text) || [null, text, undefined];
+  const [, words, , routes, , steps] = /^(.*?)( \{(.*?)\})?( \[([^\]]*step[^\]]*)\])?$/.exec(text) || [null, text];
   const colon = words.indexOf(": "), parts = colon < 0 ? [] : words.slice(colon + 2).split("; ");
   const made = [element("p", parts.length > 1 ? words.slice(0, colon + 1) : words)];
   if (parts.length > 1) made.push(list(parts));
-  if (steps !== undefined) made.push(list(steps.split("; ")));
+  if (routes !== undefined) made.push(element("p", "changed routes:", "faint"), list(routes.split("; ")));
+  if (steps !== undefined) made.push(element("p", "in the journal:", "faint"), list(steps.split("; ")));
   return made;
 }
 

@@ -2,7 +2,7 @@
 
 import { colours, kindColour, kindDashes } from "chart/colours";
 import { BY_TIME } from "chart/layout";
-import { AGAIN, PORT_DOWN, SENT_AGAIN, firstFrom, seconds } from "chart/timeline";
+import { AGAIN, PASSED_OVER, ROUTES, SENT_AGAIN, firstFrom, seconds } from "chart/timeline";
 
 const FONT = "12px system-ui, 'DejaVu Sans', sans-serif";
 const SMALL = "11px system-ui, 'DejaVu Sans', sans-serif";
@@ -166,8 +166,9 @@ function paintRow(context, pane, frame, theme, i) {
   } else {
     paintGlyph(context, kind, x, y);
   }
-  if (run.isLost(row)) paintCross(context, x, y, theme.text);
-  if (run.flags[row] & PORT_DOWN) paintCross(context, x, y, kindColour("down", frame.isDark));
+  if (run.isLost(row)) paintCross(context, x, y, 5, theme.text);
+  if (run.flags[row] & PASSED_OVER) paintCross(context, x, y, 3.5, colour);
+  if (run.flags[row] & ROUTES) paintRoutes(context, x + (run.sender[row] > run.router[row] ? -12 : 12), y, theme);
   if (run.flags[row] & (AGAIN | SENT_AGAIN)) paintRing(context, x, y, theme.text);
 }
 
@@ -233,13 +234,24 @@ function paintGlyph(context, kind, x, y) {
   }
 }
 
-function paintCross(context, x, y, colour) {
+function paintCross(context, x, y, size, colour) {
   context.strokeStyle = colour;
   context.lineWidth = 1.8;
   context.beginPath();
-  context.moveTo(x - 5, y - 5); context.lineTo(x + 5, y + 5);
-  context.moveTo(x + 5, y - 5); context.lineTo(x - 5, y + 5);
+  context.moveTo(x - size, y - size); context.lineTo(x + size, y + size);
+  context.moveTo(x + size, y - size); context.lineTo(x - size, y + size);
   context.stroke();
+}
+
+// The sign of a row that changed its router's routes.
+function paintRoutes(context, x, y, theme) {
+  context.fillStyle = theme.text;
+  context.fillRect(x - 6, y - 6, 12, 12);
+  context.fillStyle = theme.ground;
+  context.font = SMALL;
+  context.textAlign = "center";
+  context.textBaseline = "middle";
+  context.fillText("R", x, y + 1);
 }
 
 function paintRing(context, x, y, colour) {

@@ -3,7 +3,7 @@
 // A row has a number in the trace (0: taken back), a moment, a router, a kind, a sender and the moment of sending (-1:
 // nobody sent it), the place of the row that caused it (-1: unknown), flags, and a text.
 
-export const PORT_DOWN = 1, AGAIN = 2, SENT_AGAIN = 4, TAKEN_BACK = 8, UNSENT = 16;
+export const PASSED_OVER = 1, AGAIN = 2, SENT_AGAIN = 4, TAKEN_BACK = 8, UNSENT = 16, ROUTES = 32;
 
 export class Timeline {
   constructor(data, index) {

@@ -5,7 +5,7 @@ from html import escape
 from library.network import Network
 from library.tool import BadInput
 
-from .timeline import AGAIN, PORT_DOWN, SENT_AGAIN, TAKEN_BACK, UNSENT, Item, label_of
+from .timeline import AGAIN, PASSED_OVER, ROUTES, SENT_AGAIN, TAKEN_BACK, UNSENT, Item, label_of
 
 ROW, HEAD, GUTTER, COLUMN, EDGE, LETTER = 20, 44, 100, 110, 16, 6.2
 MOST_ROWS, MOST_TEXT = 400, 90
@@ -86,12 +86,24 @@ def row_lines(network: Network, chosen: list[Item], place: int, text: str, right
     if item.flags & (TAKEN_BACK | UNSENT):
         colour = LOST
     lines += sign(item.kind, x_of(item.router), y, colour) if item.sender < 0 else arrow(chosen, place, y, colour, dashes)
-    if item.flags & (TAKEN_BACK | UNSENT | PORT_DOWN):
-        x = x_of(item.router)
+    lines += marks(item, x_of(item.router), y, colour)
+    return lines + [f'<text x="{right + EDGE}" y="{y + 4}">{escape(text)}</text>']
+
+
+def marks(item: Item, x: float, y: float, colour: str) -> list[str]:
+    """The marks of what became of a row."""
+    lines = []
+    if item.flags & PASSED_OVER:
+        lines.append(f'<path d="M{x - 3} {y - 3}l6 6m0 -6l-6 6" stroke="{colour}" stroke-width="1.5"/>')
+    if item.flags & (TAKEN_BACK | UNSENT):
         lines.append(f'<path d="M{x - 5} {y - 5}l10 10m0 -10l-10 10" stroke="#1b1b1b" stroke-width="1.8"/>')
     if item.flags & (AGAIN | SENT_AGAIN):
-        lines.append(f'<circle cx="{x_of(item.router)}" cy="{y}" r="7" fill="none" stroke="#1b1b1b" stroke-width="1.4"/>')
-    return lines + [f'<text x="{right + EDGE}" y="{y + 4}">{escape(text)}</text>']
+        lines.append(f'<circle cx="{x}" cy="{y}" r="7" fill="none" stroke="#1b1b1b" stroke-width="1.4"/>')
+    if item.flags & ROUTES:
+        side = x - 11 if item.sender > item.router else x + 11
+        lines.append(f'<rect x="{side - 6}" y="{y - 6}" width="12" height="12" rx="2" fill="#1b1b1b"/>')
+        lines.append(f'<text x="{side}" y="{y + 3.5}" text-anchor="middle" fill="#ffffff" font-size="9">R</text>')
+    return lines
 
 
 def sign(kind: str, x: float, y: float, colour: str) -> list[str]:
@@ -103,10 +115,10 @@ def sign(kind: str, x: float, y: float, colour: str) -> list[str]:
 
 
 def tail_y(chosen: list[Item], place: int) -> float:
-    """The height at which a message was sent: at its sender's row of that moment, or between the rows around it."""
+    """The height at which a message was sent: at the row that sent it, or between the rows around its sending."""
     item = chosen[place]
     for other, one in enumerate(chosen[:place]):
-        if one.router == item.sender and one.moment == item.sent:
+        if one.event == item.cause:
             return HEAD + ROW * (other + 0.5)
     before = sum(one.moment <= item.sent for one in chosen[:place])
     return HEAD + ROW * before - (4 if before == 0 else 0)
