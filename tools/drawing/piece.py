@@ -120,7 +120,8 @@ def tail_y(chosen: list[Item], place: int) -> float:
     for other, one in enumerate(chosen[:place]):
         if one.event == item.cause:
             return HEAD + ROW * (other + 0.5)
-    before = sum(one.moment <= item.sent for one in chosen[:place])
+    is_above = item.cause is not None and item.cause < chosen[0].event
+    before = 0 if is_above else sum(one.moment <= item.sent for one in chosen[:place])
     return HEAD + ROW * before - (4 if before == 0 else 0)
 
 

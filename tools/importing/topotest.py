@@ -10,6 +10,7 @@ from typing import Any
 from library.commands import read_net
 from library.tool import BadInput
 
+from .jsons import json_of
 from .network import Network, Settings
 
 # What says how the test is set up, and what our links don't have: addresses, since they are unnumbered.
@@ -17,8 +18,9 @@ SILENT_KEYS = {"ipv4", "ipv6", "type", "ospf", "link", "peer-interface"}
 OSPF_SILENT = {"area", "cost", "network"}
 
 
-def read(data: dict[str, Any], settings: Settings) -> Network:
+def read(text: bytes, settings: Settings) -> Network:
     """The network of a topotest's JSON."""
+    data = json_of(text)
     routers = data.get("routers")
     if not isinstance(routers, dict) or not all(isinstance(one, dict) for one in routers.values()):
         raise BadInput('this is no topology of a topotest: it has no "routers" that are objects')
