@@ -97,9 +97,11 @@ def link_externals(network: Network, word: str, one: str, other: str, which: int
         raise BadInput("no link is between %s and %s" % (one, other))
     if which is None and len(ports) > 1:
         raise BadInput("%d links are between %s and %s: say which, from 1" % (len(ports), one, other))
-    if not 1 <= (which or 1) <= len(ports):
-        raise BadInput("%d links are between %s and %s" % (len(ports), one, other))
-    port = ports[(which or 1) - 1]
+    chosen = 1 if which is None else which
+    if not 1 <= chosen <= len(ports):
+        raise BadInput("there is no link %d between %s and %s; they are numbered from 1 to %d" % (
+            chosen, one, other, len(ports)))
+    port = ports[chosen - 1]
     kind = DOWN if word == "down" else UP
     return [(ends[0], (kind, port, b"")), (ends[1], (kind, network.ends[ends[0]][port].port, b""))]
 

@@ -11,8 +11,9 @@ from .reading import Row, Run, State
 from .replaying import RouteWatch, Taken, differing_states, taken_rows
 from .routes import Route, route_words, routes_of
 from .rowwords import kind_of, row_words
+from .spelling import counted
 from .states import guest_of, guest_words, up_words
-from .steps import Walk, count_words
+from .steps import Walk
 from .tool import BadInput, warn
 
 
@@ -56,9 +57,9 @@ class Shown:
 def case_words(case: Case) -> str:
     """A case in one line."""
     return "%s of %s, seed %d; %s, %s, %s" % (
-        count_words(case.groups, "group", "groups"), count_words(case.period, "moment", "moments"), case.seed,
-        count_words(len(case.routers), "router", "routers"), count_words(len(case.links), "link", "links"),
-        count_words(len(case.feed), "external", "externals"))
+        counted(case.groups, "group", "groups"), counted(case.period, "moment", "moments"), case.seed,
+        counted(len(case.routers), "router", "routers"), counted(len(case.links), "link", "links"),
+        counted(len(case.feed), "external", "externals"))
 
 
 # -- rows
@@ -171,7 +172,7 @@ def state_lines(run: Run, state: State) -> Iterator[str]:
     """The lines of a router's final state."""
     network, guest = run.network, guest_of(run.network, state)
     yield "final state of %s: sent %s, %s" % (
-        network.names[state.router], count_words(state.sends, "message", "messages"),
+        network.names[state.router], counted(state.sends, "message", "messages"),
         up_words(network, state.router, state.mask))
     for line in guest_words(network, state.router, guest):
         yield "  " + line

@@ -8,7 +8,9 @@ from model.case import Case
 from model.events import CMD, DOWN, MSG, TICK, UP
 from model.numbers import decimal, unhex
 
+from .casefaults import bad_line, case_fault_words
 from .network import Network
+from .spelling import quoted
 from .tool import BadInput
 
 CLASSES = {b"t": 0, b"x": 1, b"m": 2}
@@ -117,24 +119,16 @@ def read_case(data: bytes) -> tuple[Case, int]:
     try:
         return casetext.read_case(data)
     except casetext.Fault as fault:
-        raise BadInput(case_fault(data, fault)) from fault
+        raise BadInput(case_fault(data)) from fault
 
 
-def case_fault(data: bytes, fault: casetext.Fault) -> str:
-    """What is wrong with a text that begins with no case."""
-    first = data[:6]
-    if first == b"trace\n":
+def case_fault(data: bytes) -> str:
+    """What is wrong with a text that begins with no case, in lines."""
+    if data.startswith(b"trace\n"):
         return "this begins with a trace; its case must stand before it (give the whole output of the program)"
-    lines = data.split(b"\n")
-    line = lines[fault.line - 1] if fault.line <= len(lines) else b""
-    return "line %d isn't good for a case (%s): %s" % (fault.line, fault.cause, quoted(line))
-
-
-def quoted(line: bytes, most: int = 80) -> str:
-    """A line between quotes, printable, and not too long."""
-    text = line.decode("ascii", "backslashreplace")
-    printable = "".join(letter if letter.isprintable() else letter.encode("unicode_escape").decode() for letter in text)
-    return '"%s"' % (printable if len(printable) <= most else printable[:most - 3] + "...")
+    if data.startswith(b"journal\n"):
+        return "this begins with a journal; its case must stand before it"
+    return "it begins with no case:\n  " + "\n  ".join(case_fault_words(bad_line(data)))
 
 
 def read_run(data: bytes, need: str | None = None) -> Run:

@@ -12,6 +12,7 @@ from model.world import MINUS, World
 
 from .network import Network
 from .rowwords import external_line_words, input_words
+from .spelling import counted
 
 
 def event_words(network: Network, event: tuple) -> str:
@@ -25,11 +26,6 @@ def event_words(network: Network, event: tuple) -> str:
             network.names[key[4]], name, entry[1], time, input_words(network, router, entry, key[4]))
     what = "command" if entry[0] == CMD else "port change"
     return "the %s of %s s at %s: %s" % (what, time, name, input_words(network, router, entry).removeprefix("command: "))
-
-
-def count_words(count: int, one: str, many: str) -> str:
-    """`1 row`, `2 rows`."""
-    return "%d %s" % (count, one if count == 1 else many)
 
 
 @dataclass
@@ -71,9 +67,9 @@ class Walk:
         """How many messages or unsends a step has put in flight, and how many events it has taken back."""
         count = len(self.world.flight) - before
         if step[0] == "handle":
-            return "; sends " + count_words(count, "message", "messages") if count else ""
+            return "; sends " + counted(count, "message", "messages") if count else ""
         back = done - len(self.world.seats[step[1]].done)
-        return " %s; unsends %s" % (count_words(back, "event", "events"), count_words(count, "message", "messages"))
+        return " %s; unsends %s" % (counted(back, "event", "events"), counted(count, "message", "messages"))
 
     def beacon_words(self) -> str:
         """A Beacon."""
@@ -140,7 +136,7 @@ class Walk:
         if not count:
             return "nothing is at place %d: no packet is in flight" % place
         return "nothing is at place %d: in flight are %s, at the places 0 to %d" % (
-            place, count_words(count, "packet", "packets"), count - 1)
+            place, counted(count, "packet", "packets"), count - 1)
 
     def handle_refusal(self, router: int) -> str:
         """Why a router can't handle anything."""
@@ -186,16 +182,16 @@ class Walk:
             lines.append(self.feed_left())
         if world.flight:
             lines.append("%s in flight; the first is %s" % (
-                count_words(len(world.flight), "packet is", "packets are"),
+                counted(len(world.flight), "packet is", "packets are"),
                 event_words(self.network, world.flight[0][1])))
         for router, seat in enumerate(world.seats):
             if seat.behind():
                 lines.append(self.behind_words(router))
             elif seat.todo:
                 lines.append("%s has %s to handle; the first is %s" % (
-                    self.name(router), count_words(len(seat.todo), "event", "events"),
+                    self.name(router), counted(len(seat.todo), "event", "events"),
                     event_words(self.network, seat.todo[0])))
-        if world.horizon() > world.boundary:
+        if not lines and world.horizon() > world.boundary:
             lines.append("what was handled isn't all committed: a commit is missing at the end")
         return lines
 
@@ -203,7 +199,7 @@ class Walk:
         """What is left of the feed."""
         left = len(self.case.feed) - len(self.world.accepted)
         if left:
-            return "the feed is open: %s left; %s" % (count_words(left, "external is", "externals are"),
+            return "the feed is open: %s left; %s" % (counted(left, "external is", "externals are"),
                                                       self.coming_words())
         begun = self.world.floor
         if begun < self.case.groups - 1:

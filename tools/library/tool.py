@@ -87,8 +87,8 @@ def program() -> str:
     return os.environ.get("PROGRAM", os.path.join(TOP, "defined"))
 
 
-def run(main: Callable[[], int | None]) -> NoReturn:
-    """Runs a tool and ends with its status: 1 for a bad input, 130 if it is interrupted.
+def run(main: Callable[[], int | None], bad: int = 1) -> NoReturn:
+    """Runs a tool and ends with its status: `bad` for a bad input, 130 if it is interrupted.
 
     A reader that has gone away ends it as any other program of a pipe.
     """
@@ -96,8 +96,8 @@ def run(main: Callable[[], int | None]) -> NoReturn:
         signal.signal(signal.SIGPIPE, signal.SIG_DFL)
     try:
         sys.exit(main() or 0)
-    except BadInput as bad:
-        warn(str(bad))
-        sys.exit(1)
+    except BadInput as fault:
+        warn(str(fault))
+        sys.exit(bad)
     except KeyboardInterrupt:
         sys.exit(130)

@@ -9,6 +9,7 @@ import subprocess
 import sys
 import unittest
 from collections.abc import Iterator
+from functools import lru_cache
 from types import ModuleType
 
 TOOLS = os.path.dirname(os.path.dirname(os.path.abspath(__file__)))
@@ -80,10 +81,17 @@ def generated(count: int, most: int = 3500) -> Iterator[tuple[str, bytes, Run]]:
     """Runs of the profiles of `reference/inputs`, each with a name, its text and the records; none above `most` rows."""
     number, given = 0, 0
     while given < count:
-        profile = profiles.SHORT[number % len(profiles.SHORT)]
-        run: Lockstep = profile(random.Random("tools %d" % number))
+        name, text, run = profile_run(number)
         number += 1
         if len(run.rows) <= most:
             given += 1
-            text = casetext.write_case(run.case) + trace.run_text(run)
-            yield "%s %d" % (profile.__name__, number - 1), text, read_run(text, need="trace")
+            yield name, text, run
+
+
+@lru_cache(maxsize=None)
+def profile_run(number: int) -> tuple[str, bytes, Run]:
+    """The run of a number, made once."""
+    profile = profiles.SHORT[number % len(profiles.SHORT)]
+    made: Lockstep = profile(random.Random("tools %d" % number))
+    text = casetext.write_case(made.case) + trace.run_text(made)
+    return "%s %d" % (profile.__name__, number), text, read_run(text, need="trace")

@@ -79,7 +79,7 @@ class Reading(unittest.TestCase):
     @needs("tshark", "tshark")
     def test_generated(self):
         """Runs of OSPF, RIP and flooding routers with crafted packets, all captures behind one another."""
-        runs = [(name, run) for name, _, run in generated(36)]
+        runs = [(name, run) for name, _, run in generated(30)]
         told = told_by_tshark(b"".join(pcap.capture(run) for _, run in runs))
         for name, run in runs:
             count = sum(row.input == MSG for row in run.rows)
