@@ -104,14 +104,18 @@ function told(view, { run: index, row }) {
   return parts;
 }
 
-// A text: what came, its parts behind the colon as a list, the routes that it changed (in braces), and what a journal
-// says of it (in brackets).
+// A text: why it was passed over, the routes that it changed, what came with its parts behind the colon as a list, and
+// what a journal says of it (in brackets).
 function textParts(text) {
-  const [, words, , routes, , steps] = /^(.*?)( \{(.*?)\})?( \[([^\]]*step[^\]]*)\])?$/.exec(text) || [null, text];
+  const [, front, steps] = /^(.*?)(?: \[([^\]]*step[^\]]*)\])?$/.exec(text) || [null, text];
+  const pieces = front.split(" \u00B7 "), words = pieces.pop(), made = [];
   const colon = words.indexOf(": "), parts = colon < 0 ? [] : words.slice(colon + 2).split("; ");
-  const made = [element("p", parts.length > 1 ? words.slice(0, colon + 1) : words)];
+  made.push(element("p", parts.length > 1 ? words.slice(0, colon + 1) : words));
   if (parts.length > 1) made.push(list(parts));
-  if (routes !== undefined) made.push(element("p", "changed routes:", "faint"), list(routes.split("; ")));
+  for (const piece of pieces) {
+    if (piece.startsWith("R ")) made.push(element("p", "changed the routes:", "faint"), list(piece.slice(2).split("; ")));
+    else made.push(element("p", piece));
+  }
   if (steps !== undefined) made.push(element("p", "in the journal:", "faint"), list(steps.split("; ")));
   return made;
 }

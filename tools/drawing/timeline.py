@@ -15,6 +15,7 @@ from .rollbacks import Event, Story, story_of
 
 CHART_KINDS = (*INPUT_KINDS.values(), *KINDS)
 LABELS = {"acknowledgement": "Ack", FLOODED: "bytes", MALFORMED: "no packet"}
+PASSED_SIGN, ROUTES_SIGN, SEPARATOR = "\u00d7", "R", " \u00b7 "
 STANDS, PASSED_OVER, AGAIN, SENT_AGAIN, TAKEN_BACK, UNSENT, ROUTES = 0, 1, 2, 4, 8, 16, 32
 
 
@@ -108,12 +109,14 @@ def item_of(run: Run, row: Row, flags: int, story: Story, effects: Effects) -> I
 
 
 def all_words(network: Network, row: Row, story: Story, effects: Effects) -> str:
-    """A row in words, with why it was passed over, the routes that it changed, and what the journal says of it."""
-    words, event = row_words(network, row), row.event
+    """A row in words, behind why it was passed over and the routes that it changed, and before what a journal says."""
+    event, parts = row.event, []
     if event in effects.passed:
-        words += f" (passed over: {effects.passed[event]})"
+        parts.append(f"{PASSED_SIGN} passed over: {effects.passed[event]}")
     if event in effects.changes:
-        words += f" {{{'; '.join(effects.changes[event])}}}"
+        front = f"routes of {network.names[row.router]}: "
+        parts.append(f"{ROUTES_SIGN} {'; '.join(line.removeprefix(front) for line in effects.changes[event])}")
+    words = SEPARATOR.join([*parts, row_words(network, row)])
     told = story.words.get(event)
     return words if not told else f"{words} [{'; '.join(told)}]"
 

@@ -103,7 +103,7 @@ class Rows(unittest.TestCase):
 
     def test_a_journal_alone(self):
         """A journal without a trace has the rows that it has handled."""
-        steps = b"journal\nhandle b\nbeacon\nhandle b\nhandle a\nend journal 4\n"
+        steps = b"journal\ninject @0 a cmd 41\nhandle b\nbeacon\nhandle b\nhandle a\nend journal 5\n"
         items = items_of(read_run(example("two_routers", ".case") + steps))
         self.assertEqual([item.number for item in items], [1, 2, 3])
 
