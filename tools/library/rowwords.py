@@ -41,5 +41,5 @@ def row_words(network: Network, row: Row) -> str:
 
 
 def external_line_words(network: Network, router: int, entry: tuple) -> str:
-    """An external of the feed in words, with its router: `a: port 1 to d goes down`."""
-    return "%s: %s" % (network.names[router], input_words(network, router, entry))
+    """An external of the feed in words, with its router: `a: port 1 to d goes down`, `a: set 10.0.0.0/8 cost 3`."""
+    return "%s: %s" % (network.names[router], input_words(network, router, entry).removeprefix("command: "))

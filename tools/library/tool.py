@@ -5,7 +5,7 @@ import os
 import signal
 import sys
 from collections.abc import Callable, Iterable
-from typing import NoReturn
+from typing import NoReturn, TextIO
 
 TOP = os.path.dirname(os.path.dirname(os.path.dirname(os.path.abspath(__file__))))
 
@@ -32,11 +32,11 @@ def indented(text: str) -> str:
 def read(path: str | None) -> bytes:
     """All bytes of a file, or of standard input if there is no path or it is `-`; raises `BadInput`."""
     try:
-        if path in (None, "-"):
-            return sys.stdin.buffer.read()
-        with open(path, "rb") as file:
-            return file.read()
-    except (OSError, AttributeError) as error:
+        if path not in (None, "-"):
+            with open(path, "rb") as file:
+                return file.read()
+        return stream(sys.stdin, "read standard input").buffer.read()
+    except OSError as error:
         raise BadInput("can't read %s: %s" % (path or "standard input", reason(error))) from error
 
 
@@ -44,32 +44,46 @@ def write(path: str | None, data: str | bytes) -> None:
     """Writes text or bytes to a file, or to standard output if there is no path or it is `-`; raises `BadInput`."""
     raw = data.encode() if isinstance(data, str) else data
     try:
-        if path in (None, "-"):
-            sys.stdout.buffer.write(raw)
-            sys.stdout.buffer.flush()
-        else:
+        if path not in (None, "-"):
             with open(path, "wb") as file:
                 file.write(raw)
-    except (OSError, AttributeError) as error:
+        else:
+            buffer = stream(sys.stdout, "write standard output").buffer
+            buffer.write(raw)
+            buffer.flush()
+    except OSError as error:
         raise BadInput("can't write %s: %s" % (path or "standard output", reason(error))) from error
 
 
 def write_lines(path: str | None, lines: Iterable[str]) -> None:
     """Writes lines as they come, each with a newline, as `write` does."""
     try:
-        file = sys.stdout if path in (None, "-") else open(path, "w", encoding="utf-8")  # noqa: SIM115
-        for line in lines:
-            file.write(line + "\n")
-        file.flush()
-        if file is not sys.stdout:
-            file.close()
-    except (OSError, AttributeError) as error:
+        if path not in (None, "-"):
+            with open(path, "w", encoding="utf-8") as file:
+                file.writelines(line + "\n" for line in lines)
+        else:
+            output = stream(sys.stdout, "write standard output")
+            output.writelines(line + "\n" for line in lines)
+            output.flush()
+    except OSError as error:
         raise BadInput("can't write %s: %s" % (path or "standard output", reason(error))) from error
 
 
-def reason(error: Exception) -> str:
+def stream(found: TextIO | None, purpose: str) -> TextIO:
+    """A standard stream; raises `BadInput` if it is closed."""
+    if found is None:
+        raise BadInput("can't %s: it is closed" % purpose)
+    return found
+
+
+def is_for_terminal(path: str | None) -> bool:
+    """Whether what is written to this path is shown on a terminal."""
+    return path in (None, "-") and sys.stdout is not None and sys.stdout.isatty()
+
+
+def reason(error: OSError) -> str:
     """Why the operating system refused."""
-    return (getattr(error, "strerror", None) or "it is closed").lower()
+    return (error.strerror or str(error)).lower()
 
 
 def warn(words: str) -> None:

@@ -103,6 +103,7 @@ class Rows(unittest.TestCase):
                   ("--router", "a", "--router", "b", "--port", "1"): [row for row in run.rows if row.router in (0, 1)
                                                                       and row.port == 1],
                   ("--group", "60"): [row for row in run.rows if row.group == 60],
+                  ("--group", "190-"): [row for row in run.rows if row.group >= 190],
                   ("--group", "10-12", "--without", "tick"): [row for row in run.rows if row.group in (10, 11, 12)
                                                               and row.input == MSG],
                   ("--kind", "hello"): [row for row in run.rows if row.body[1:2] == b"\1"]}
@@ -158,7 +159,7 @@ class Journals(unittest.TestCase):
         text = case + (b"journal\ninject @0 a cmd 41\nhandle b\nbeacon\nhandle b\nhandle a\nhandle a\ndeliver 0\n"
                        b"rollback b\nend journal 8\n")
         lines = explained(text)
-        self.assertIn("   1  inject @0 a cmd 41: from outside, a: command: flood 41", lines)
+        self.assertIn("   1  inject @0 a cmd 41: from outside, a: flood 41", lines)
         self.assertIn("   6  handle a: handles the command of 0.00 s at a: flood 41; sends 1 message", lines)
         self.assertIn("   7  deliver 0: arrives: a message of a to b at port 0, 0.10 s: 41 (1 byte)", lines)
         self.assertTrue(any(line.startswith("   8  rollback b: b is behind:") and line.endswith(
@@ -192,7 +193,7 @@ class Command(unittest.TestCase):
         """Bad inputs and arguments."""
         for words, text, told in (([], b"", b"begins with no case"), ([], example("smallest", ".case"), b"neither a trace"),
                                   (["--router", "z"], example("smallest"), b"no router is called z"),
-                                  (["--group", "x"], example("smallest"), b"--group is a number"),
+                                  (["--group", "x"], example("smallest"), b"--group is N"),
                                   (["--journal"], example("smallest"), b"no journal"),
                                   (["/nonexistent"], b"", b"no such file"), (["/"], b"", b"is a directory")):
             done = tool("explain", *words, text=text)
@@ -225,6 +226,17 @@ class Command(unittest.TestCase):
                               capture_output=True, check=False)
         self.assertEqual(done.returncode, 1)
         self.assertNotIn(b"Traceback", done.stderr)
+
+    def test_closed_streams(self):
+        """Closed and full streams are said in one line by each tool."""
+        output = "%s/smallest.out" % EXAMPLES
+        for words, status in (("explain <&-", 1), ("pcap <&-", 1), ("why line 1: ended <&-", 1),
+                              ("compare - %s <&-" % output, 2), ("explain %s >&-" % output, 1),
+                              ("pcap %s >&-" % output, 1), ("pcap %s > /dev/full" % output, 1),
+                              ("compare %s %s >&-" % (output, output), 2), ("why usage >&-", 1),
+                              ("why usage > /dev/full", 1)):
+            done = subprocess.run(["bash", "-c", "%s/%s" % (TOOLS, words)], capture_output=True, check=False)
+            self.assertEqual((done.returncode, done.stderr.count(b"\n")), (status, 1), (words, done.stderr))
 
     def test_many_rows(self):
         """20,000 rows in some seconds."""

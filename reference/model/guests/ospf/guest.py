@@ -241,7 +241,7 @@ class Ospf(Routing):
             self.flood(key)
         for key in self.database.at_max_age():
             if not self.is_listed(key):
-                del self.database.map[key]
+                self.database.drop(key)
 
     def is_wanted(self, body):
         """Whether the own LSA isn't the one that it ought to be."""

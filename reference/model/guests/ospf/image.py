@@ -53,7 +53,8 @@ def read_into(router, raw):
     for _ in range(reader.number(1)):
         router.costs.append(reader.number(2))
         router.ports.append(read_port(router.new_port(), reader))
-    router.database.map = dict(read_kept(reader) for _ in range(reader.number(2)))
+    for _ in range(reader.number(2)):
+        router.database.put(*read_kept(reader))
     reader.end()
 
 
