@@ -14,7 +14,7 @@ RESOLUTION = 9
 
 @dataclass(frozen=True)
 class Frame:
-    """A captured frame: its number from 1, its time in seconds, its link type, its bytes, and its length on the wire."""
+    """A captured frame: number from 1, time in seconds, link type, bytes, and the length that it had on the wire."""
 
     number: int
     time: float

@@ -192,8 +192,8 @@ def note_neighbours(play: Playback) -> None:
     """Notes that ours will be nobody's full neighbour, if no Hello lists it."""
     if play.protocol == "ospf" and play.our_id not in play.listed:
         ids = ", ".join(dotted(one) for one in sorted(play.listed)) or "nobody"
-        play.notes.append(f"no Hello lists ours ({dotted(play.our_id)}), so it will take no Update; the Hellos list {ids}; "
-                          "--as ID writes ours in the place of one of them")
+        play.notes.append(f"no Hello lists ours ({dotted(play.our_id)}), so it will take no Update; the Hellos list "
+                          f"{ids}; --as ID writes ours in the place of one of them")
 
 
 def built(play: Playback) -> Case:

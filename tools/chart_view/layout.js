@@ -38,7 +38,8 @@ function byRows(runs, lists) {
   const next = lists.map(() => 0);
   let slot = 0;
   for (;;) {
-    const moment = Math.min(...lists.map((rows, r) => (next[r] < rows.length ? runs[r].moment[rows[next[r]]] : Infinity)));
+    const momentOf = (rows, r) => (next[r] < rows.length ? runs[r].moment[rows[next[r]]] : Infinity);
+    const moment = Math.min(...lists.map(momentOf));
     if (moment === Infinity) return { at, extent: slot };
     slot += Math.max(...lists.map((rows, r) => placeMoment(runs[r], rows, at[r], next, r, moment, slot)));
   }

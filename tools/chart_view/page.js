@@ -19,8 +19,12 @@ const HELP = [
   ["Home End", "the beginning, the end"], ["Esc", "no row, no search"],
   ["wheel", "moves; with Ctrl zooms, with Shift goes sideways"],
   ["\u25CF \u25C6", "tick, command"], ["\u25BC \u25B2", "a port goes down, up"],
-  ["\u00D7 small", "passed over"], ["\u2715 large", "taken back or unsent"], ["\u25CB", "taken back or unsent, and come again"], ["R", "changed the router's routes"],
+  ["\u00D7 small", "passed over"], ["\u2715 large", "taken back or unsent"],
+  ["\u25CB", "taken back or unsent, and come again"], ["R", "changed the router's routes"],
 ];
+
+// The width in pixels below which the panel is below the chart, as in style.css.
+const NARROW = 900;
 
 const byId = (id) => document.getElementById(id);
 
@@ -30,7 +34,9 @@ export function start(data) {
   const overview = new Overview(byId("overview"), view);
   view.afterPaint.push(overview);
   byId("title").textContent = data.title;
-  if (window.innerWidth < 900) document.querySelectorAll("#panel details").forEach((part) => part.removeAttribute("open"));
+  if (window.innerWidth < NARROW) {
+    document.querySelectorAll("#panel details").forEach((part) => part.removeAttribute("open"));
+  }
   makeKinds(page);
   makeRouters(page);
   makeHelp();
@@ -82,7 +88,8 @@ function showDetails(page, view) {
   const details = byId("details");
   if (details.dataset.key === key && details.childNodes.length > 0) return;
   details.dataset.key = key;
-  details.replaceChildren(...(chosen === null ? [element("p", "Click a row, or press \u2193.", "faint")] : told(view, chosen)));
+  const nothing = [element("p", "Click a row, or press \u2193.", "faint")];
+  details.replaceChildren(...(chosen === null ? nothing : told(view, chosen)));
 }
 
 // What is said of a row: number, time, router, sender, text, and what became of it.
@@ -91,8 +98,8 @@ function told(view, { run: index, row }) {
   const number = run.number[row] > 0 ? "Row " + run.number[row] : "No row of the trace";
   const parts = [element("h2", number + " at " + name(run.router[row]))];
   if (view.runs.length > 1) parts.push(element("p", data.runs[index].name, "faint"));
-  const moment = run.moment[row], group = Math.floor(moment / data.period);
-  parts.push(element("p", seconds(data, moment) + " s (group " + group + ", moment " + (moment % data.period) + ")", "faint"));
+  const moment = run.moment[row], group = Math.floor(moment / data.period), sum = moment % data.period;
+  parts.push(element("p", seconds(data, moment) + " s (group " + group + ", moment " + sum + ")", "faint"));
   if (run.sender[row] >= 0) {
     const from = "from " + name(run.sender[row]) + ", sent at " + seconds(data, run.sent[row]) + " s";
     parts.push(element("p", from, "faint"));
@@ -113,8 +120,11 @@ function textParts(text) {
   made.push(element("p", parts.length > 1 ? words.slice(0, colon + 1) : words));
   if (parts.length > 1) made.push(list(parts));
   for (const piece of pieces) {
-    if (piece.startsWith("R ")) made.push(element("p", "changed the routes:", "faint"), list(piece.slice(2).split("; ")));
-    else made.push(element("p", piece));
+    if (piece.startsWith("R ")) {
+      made.push(element("p", "changed the routes:", "faint"), list(piece.slice(2).split("; ")));
+    } else {
+      made.push(element("p", piece));
+    }
   }
   if (steps !== undefined) made.push(element("p", "in the journal:", "faint"), list(steps.split("; ")));
   return made;
@@ -146,7 +156,8 @@ function toggled(set, value, isShown) {
 
 function makeKinds(page) {
   const { data, view } = page, filter = view.state.filter;
-  const counts = data.kinds.map((_, kind) => view.runs.reduce((sum, run) => sum + run.kind.filter((one) => one === kind).length, 0));
+  const counts = data.kinds.map(() => 0);
+  for (const run of view.runs) for (const kind of run.kind) counts[kind] += 1;
   const made = data.kinds.map((kind, place) => {
     if (counts[place] === 0) return null;
     const label = choice("", !filter.kinds.has(place), (isShown) => {
@@ -209,7 +220,8 @@ function listen(page) {
   find.addEventListener("keydown", (event) => onFindKey(page, event));
   const clicks = {
     earlier: () => view.stepOfMatch(-1), later: () => view.stepOfMatch(1), closer: () => view.zoomBy(1.3),
-    wider: () => view.zoomBy(1 / 1.3), fit: () => view.fit(), scale: () => turnScale(view), texts: () => turnTexts(view),
+    wider: () => view.zoomBy(1 / 1.3), fit: () => view.fit(), scale: () => turnScale(view),
+    texts: () => turnTexts(view),
     mark: () => goMark(view), part: () => goPart(view), side: () => turnPanel(view),
     theme: () => { setTheme(page, view.isDark ? "light" : "dark"); writeAddress(page); },
   };
@@ -309,8 +321,8 @@ function readAddress(page) {
   const filter = { kinds: named(data.kinds, parts.get("hide"), view.tickKinds()),
                    routers: named(data.routers, parts.get("without"), new Set()) };
   byId("find").value = parts.get("find") || "";
-  view.setState({ filter, find: parts.get("find") || "", texts: parts.get("text") !== "no", chosen: chosenOf(view, parts),
-                  scale: parts.get("scale") === BY_TIME ? BY_TIME : BY_ROWS, column: numberOf(parts, "column", 0) });
+  view.setState({ filter, find: parts.get("find") || "", texts: parts.get("text") !== "no",
+                  chosen: chosenOf(view, parts), scale: parts.get("scale") === BY_TIME ? BY_TIME : BY_ROWS, column: numberOf(parts, "column", 0) });
   view.state.zoom = numberOf(parts, "zoom", view.state.zoom);
   makeKinds(page);
   makeRouters(page);

@@ -95,7 +95,8 @@ export class ChartView {
   }
 
   hasTexts() {
-    return this.state.texts && this.state.scale === BY_ROWS && this.state.zoom >= READABLE && this.paneWidth() >= TEXT_FROM;
+    const { texts, scale, zoom } = this.state;
+    return texts && scale === BY_ROWS && zoom >= READABLE && this.paneWidth() >= TEXT_FROM;
   }
 
   columnsWidth() {
@@ -193,7 +194,8 @@ export class ChartView {
   // The zoom at which some rows from a spot on are in sight; never less than the whole run.
   zoomOfTime(spot) {
     const { rows, at, places } = this.layout.panes[spot === null ? 0 : spot.run];
-    const first = Math.max(0, spot === null ? 0 : places[spot.row]), last = Math.min(rows.length - 1, first + SIGHT_ROWS);
+    const first = Math.max(0, spot === null ? 0 : places[spot.row]);
+    const last = Math.min(rows.length - 1, first + SIGHT_ROWS);
     const span = last > first ? at[last] - at[first] : 0;
     return this.sightHeight() / Math.min(this.layout.extent, Math.max(span * 1.2, 1e-3));
   }

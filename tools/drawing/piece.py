@@ -85,7 +85,10 @@ def row_lines(network: Network, chosen: list[Item], place: int, text: str, right
     colour, dashes = STYLES[item.kind]
     if item.flags & (TAKEN_BACK | UNSENT):
         colour = LOST
-    lines += sign(item.kind, x_of(item.router), y, colour) if item.sender < 0 else arrow(chosen, place, y, colour, dashes)
+    if item.sender < 0:
+        lines += sign(item.kind, x_of(item.router), y, colour)
+    else:
+        lines += arrow(chosen, place, y, colour, dashes)
     lines += marks(item, x_of(item.router), y, colour)
     return lines + [f'<text x="{right + EDGE}" y="{y + 4}">{escape(text)}</text>']
 
@@ -108,7 +111,8 @@ def marks(item: Item, x: float, y: float, colour: str) -> list[str]:
 
 def sign(kind: str, x: float, y: float, colour: str) -> list[str]:
     """What stands for a row that isn't a message."""
-    shapes = {"command": f"M{x} {y - 6}l6 6l-6 6l-6 -6z", "up": f"M{x} {y - 6}l6 10h-12z", "down": f"M{x} {y + 6}l6 -10h-12z"}
+    shapes = {"command": f"M{x} {y - 6}l6 6l-6 6l-6 -6z", "up": f"M{x} {y - 6}l6 10h-12z",
+              "down": f"M{x} {y + 6}l6 -10h-12z"}
     if kind in shapes:
         return [f'<path d="{shapes[kind]}" fill="{colour}"/>']
     return [f'<circle cx="{x}" cy="{y}" r="2.5" fill="{colour}"/>']
@@ -131,11 +135,12 @@ def arrow(chosen: list[Item], place: int, y: float, colour: str, dashes: str) ->
     x0, x1, y0 = x_of(item.sender), x_of(item.router), tail_y(chosen, place)
     length = max(1.0, ((x1 - x0) ** 2 + (y - y0) ** 2) ** 0.5)
     dx, dy = (x1 - x0) / length, (y - y0) / length
-    corners = [(x1, y), (x1 - 8 * dx - 3.5 * dy, y - 8 * dy + 3.5 * dx), (x1 - 8 * dx + 3.5 * dy, y - 8 * dy - 3.5 * dx)]
+    back, wide = (x1 - 8 * dx, y - 8 * dy), (3.5 * dy, -3.5 * dx)
+    corners = [(x1, y), (back[0] - wide[0], back[1] - wide[1]), (back[0] + wide[0], back[1] + wide[1])]
     points = " ".join(f"{a:.1f},{b:.1f}" for a, b in corners)
     label, left = label_of(item.kind), x0 < x1
+    anchor = "end" if left else "start"
     dash = f' stroke-dasharray="{dashes}"' if dashes else ""
     return [f'<line x1="{x0}" y1="{y0:.1f}" x2="{x1 - 5 * dx:.1f}" y2="{y - 5 * dy:.1f}" stroke="{colour}" '
             f'stroke-width="1.3"{dash}/>', f'<polygon points="{points}" fill="{colour}"/>',
-            f'<text x="{x1 - 12 if left else x1 + 12:.1f}" y="{y + 3.5:.1f}" text-anchor="{"end" if left else "start"}" '
-            f'fill="{colour}" stroke="#ffffff" stroke-width="3" paint-order="stroke" font-size="10">{label}</text>']
+            f'<text x="{x1 - 12 if left else x1 + 12:.1f}" y="{y + 3.5:.1f}" text-anchor="{anchor}" fill="{colour}" stroke="#ffffff" stroke-width="3" paint-order="stroke" font-size="10">{label}</text>']

@@ -1,4 +1,4 @@
-"""What a journal's steps take back: events that a router handled too early, and the messages that were unsent for it."""
+"""What a journal's steps take back: events that were handled too early, and the messages that were unsent for it."""
 
 from dataclasses import dataclass, field
 

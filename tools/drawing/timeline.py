@@ -38,7 +38,7 @@ class Item:
     `number` is the row's in the trace, from 1, or 0 for what the run took back. `sender` and `sent` are -1 for what
     nobody sent; moments are counted from the beginning of the run. `flags` says what became of it: PASSED_OVER (it did
     nothing), AGAIN and SENT_AGAIN (it was taken back or unsent, and came again), TAKEN_BACK and UNSENT (it was, and
-    didn't come again), ROUTES (it changed the router's routes). `cause` is the event whose step sent it, if it is known.
+    didn't come again), ROUTES (it changed the router's routes). `cause` is the event whose step sent it, if known.
     """
 
     number: int
@@ -92,7 +92,8 @@ def rows_of(story: Story) -> list[Row]:
 def standing_flags(row: Row, story: Story, effects: Effects) -> int:
     """What became of a row that stands in the trace."""
     event = row.event
-    chosen = ((PASSED_OVER, effects.passed), (ROUTES, effects.changes), (AGAIN, story.undone), (SENT_AGAIN, story.unsent))
+    chosen = ((PASSED_OVER, effects.passed), (ROUTES, effects.changes),
+              (AGAIN, story.undone), (SENT_AGAIN, story.unsent))
     return sum(flag for flag, events in chosen if event in events)
 
 

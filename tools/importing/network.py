@@ -126,7 +126,8 @@ class Network:
                 node.prefixes.append((0x0A000000 + (number << 8), 24, 1))
                 given.append(node.name)
         if given:
-            self.note(f"{len(given)} routers without a network of their own got 10.0.N.0/24 (--no-networks leaves this out)")
+            self.note(f"{len(given)} routers without a network of their own got 10.0.N.0/24 (--no-networks leaves this "
+                      "out)")
 
     def case(self) -> Case:
         """The case of the network, without its feed."""

@@ -132,7 +132,8 @@ def take_loopbacks(network: Network, routers: dict[str, Any], prefix: dict[str, 
             text = link["ipv4"]
             if text == "auto":
                 digits = "".join(letter for letter in name if letter.isdigit()) or "0"
-                text = f"{prefix.get('ipv4', '1.0.')}{int(digits)}.{ord(name[0].lower()) - 97}/{prefix.get('v4mask', 32)}"
+                letter = ord(name[0].lower()) - ord("a")
+                text = f"{prefix.get('ipv4', '1.0.')}{int(digits)}.{letter}/{prefix.get('v4mask', 32)}"
             try:
                 address, length = read_net(text)
             except BadInput as fault:

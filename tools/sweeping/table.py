@@ -119,7 +119,7 @@ def first_other(runs: list[Run], told: Callable[[Row], tuple]) -> int | None:
 
 
 def in_one_order(runs: list[Run]) -> list[Run]:
-    """The runs with the rows of each moment in one order, so that what only came in another order isn't a difference."""
+    """The runs with the rows of each moment in one order, so that another order isn't a difference."""
     return [replace(run, rows=sorted(run.rows, key=unordered)) for run in runs]
 
 

@@ -1,4 +1,4 @@
-"""docs/TOOLS.md: what it shows of sweep, import and capture is what they write, its case is one, its pictures are there."""
+"""docs/TOOLS.md: what it shows of sweep, import and capture is what they write; its case and its pictures."""
 
 import os
 import re
