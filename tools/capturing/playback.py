@@ -13,14 +13,16 @@ from library.tool import BadInput
 from model.case import MAX_BODY, MAX_GROUPS, MAX_PORTS, Case, External, Router
 from model.events import CMD
 from model.guests.ospf import wire as ospf
-from model.guests.ospf.lsa import HEAD_SIZE
+from model.guests.ospf.lsa import HEAD_SIZE, LINK, POINT_TO_POINT, ROUTER_LSA, Lsa, fletcher_set, links_of
 from model.guests.rip import wire as rip
 from model.octets import packed
 
 from .frames import Message
 
 OURS = b"ours"
-AREA, CHECKSUM, AUTHENTICATION = 8, 12, 16
+CHECKSUM, AUTHENTICATION = 12, 16
+# In a router-LSA's body: the first link, and within a link the number of its TOS metrics (RFC 2328, A.4.2).
+LINKS, METRICS = 4, 9
 OSPF_TYPES = {2: "Database Description", 3: "Link State Request"}
 MOST_ENTRIES = (MAX_BODY - 4) // 20
 UPDATE_HEAD = ospf.PACKET_HEAD + 4
@@ -118,11 +120,21 @@ def refusal(play: Playback, message: Message, group: int) -> str | None:
 
 
 def placed(play: Playback, message: Message) -> bytes:
-    """An OSPF packet in which ours is listed where the router stood whose place it takes."""
-    packet = ospf.decode(message.body)
-    if packet.kind != ospf.HELLO:
-        return message.body
-    hello = packet.body
+    """An OSPF packet in which ours is named where the router is whose place it takes: in Hellos and in LSAs' links."""
+    packet, place_of = ospf.decode(message.body), play.wishes.place_of
+    if packet.kind == ospf.HELLO:
+        return placed_hello(play, message, packet.body)
+    if packet.kind == ospf.UPDATE and place_of is not None:
+        lsas = [relinked(lsa, place_of, play.our_id) for lsa in packet.body]
+        if lsas != packet.body:
+            play.note(message, f"links to {dotted(place_of)} are written as to ours, {dotted(play.our_id)}, with new LS "
+                      "checksums")
+            return ospf.encode_update(packet.router, lsas)
+    return message.body
+
+
+def placed_hello(play: Playback, message: Message, hello: ospf.Hello) -> bytes:
+    """A Hello in which ours is listed where the router is whose place it takes."""
     if (hello.interval, hello.dead) != (ospf.HELLO_INTERVAL, ospf.DEAD_INTERVAL):
         play.note(message, f"a Hello with interval {hello.interval} and dead interval {hello.dead}; ours counts only "
                   f"{ospf.HELLO_INTERVAL} and {ospf.DEAD_INTERVAL}")
@@ -133,6 +145,19 @@ def placed(play: Playback, message: Message) -> bytes:
     play.note(message, f"neighbour {dotted(play.wishes.place_of)} is written as ours, {dotted(play.our_id)}")
     place = ospf.PACKET_HEAD + 20 + 4 * hello.neighbours.index(play.wishes.place_of)
     return with_checksum(message.body[:place] + packed((play.our_id, 4)) + message.body[place + 4:])
+
+
+def relinked(lsa: Lsa, old: int, new: int) -> Lsa:
+    """A router-LSA with its point-to-point links to one router turned to another, and the right LS checksum."""
+    links = links_of(lsa.body) if lsa.head.kind == ROUTER_LSA else None
+    if links is None or (POINT_TO_POINT, old) not in [link[:2] for link in links]:
+        return lsa
+    body, place = bytearray(lsa.body), LINKS
+    for kind, link_id, _, _ in links:
+        if (kind, link_id) == (POINT_TO_POINT, old):
+            body[place:place + 4] = packed((new, 4))
+        place += LINK.size + 4 * body[place + METRICS]
+    return fletcher_set(Lsa(lsa.head, bytes(body)))
 
 
 def with_checksum(body: bytes) -> bytes:

@@ -1,9 +1,10 @@
 """tools/capture: captures of the product's own packets, in several formats, played to a router again."""
 
+import os
 import struct
 import unittest
 
-from helping import example, lockstep, tool
+from helping import TOOLS, example, lockstep, tool
 from library import internet
 from library.packets import packet
 from library.reading import read_run
@@ -107,6 +108,26 @@ class Played(unittest.TestCase):
                       "packet 4 from 192.0.2.1: no OSPF packet", "packet 5 from 192.0.2.1: no OSPF packet"):
             self.assertIn(words, told)
         self.assertEqual(sum(row.input == CMD for row in run.rows), 1)
+
+
+class RealRouters(unittest.TestCase):
+    """Captures of two FRR 8.4.4 routers, 1.1.1.1 and 2.2.2.2, on one link: ours plays the second one."""
+
+    def holdings(self, name: str, *words: str) -> list[str]:
+        """What ours ends with."""
+        with open(os.path.join(TOOLS, "tests", "networks", name), "rb") as file:
+            _, _, run = played(file.read(), *words)
+        ours = run.network.number("ours")
+        return holdings_words(run.network, ours, guest_of(run.network, run.states[ours]))
+
+    def test_ospf(self):
+        """Ours becomes full with FRR's ospfd and learns its networks."""
+        self.assertEqual(self.holdings("frr_ospf.pcap", "--as", "2.2.2.2"),
+                         ["10.0.12.0/24 cost 11 via peer1", "10.1.0.1/32 cost 1 via peer1"])
+
+    def test_rip(self):
+        """Ours learns the network of FRR's ripd."""
+        self.assertEqual(self.holdings("frr_rip.pcap", "--from", "10.0.12.1"), ["10.1.0.0/24 metric 2 via peer1"])
 
 
 class BadInputs(unittest.TestCase):
