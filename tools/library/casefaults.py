@@ -14,6 +14,7 @@ from model.shapes import NEXT, shape_of
 
 from .spelling import (counted, hex_fault, kind_fault, name_fault, net_fault, number_fault, oddities, quoted, repaired)
 
+MOST_NAMES = 12
 FORMS = {"defined": "defined 1", "period": "period N", "groups": "groups N", "seed": "seed N",
          "router": "router NAME KIND", "link": "link NAME NAME DELAY COST", "prefix": "prefix NAME A.B.C.D/LEN COST",
          "feed": "feed", "external": "@GROUP NAME cmd HEX (or down PORT, or up PORT)", "end": "end"}
@@ -228,7 +229,8 @@ def unknown_words(case: Case, name: bytes) -> list[str]:
     if name.decode() in names:
         return []
     close = difflib.get_close_matches(name.decode(), names, 1)
-    told = "; %s is meant?" % close[0] if close else "; there are %s" % ", ".join(names[:12] + ["..."] * (len(names) > 12))
+    some = ", ".join(names[:MOST_NAMES] + ["..."] * (len(names) > MOST_NAMES))
+    told = "; %s is meant?" % close[0] if close else "; there are %s" % some
     return ["no router is called %s%s" % (name.decode(), told)]
 
 
@@ -302,5 +304,5 @@ def port_words(bad: BadLine) -> list[str]:
 def port_fault(case: Case, name: bytes, port: int) -> list[str]:
     """A port that a router hasn't."""
     count = case.port_count(case.router_number(name))
-    has = "no ports, as no link names it" if not count else "the port 0" if count == 1 else "the ports 0 to %d" % (count - 1)
+    has = {0: "no ports, as no link names it", 1: "the port 0"}.get(count, "the ports 0 to %d" % (count - 1))
     return ["router %s has no port %d; it has %s, in the order of its links" % (name.decode(), port, has)]

@@ -27,7 +27,7 @@ def dotted(address: int) -> str:
 
 
 def command_words(body: bytes, kind: str) -> str:
-    """What a command's bytes say to a router of a kind: `set 10.0.0.0/8 cost 3`, or the bytes and why they say nothing."""
+    """What a command's bytes say to a router of a kind: `set 10.0.0.0/8 cost 3`, or the bytes and why it is nothing."""
     if kind == "flood":
         return "flood " + body.hex()
     fault = command_fault(body)
@@ -40,7 +40,7 @@ def command_words(body: bytes, kind: str) -> str:
 
 
 def command_fault(body: bytes) -> str | None:
-    """Why the bytes are no command of an OSPF or RIP router, or None. Costs and the number of networks aren't judged."""
+    """Why the bytes are no command of an OSPF or RIP router, or None. Costs and how many networks aren't judged."""
     if body[:1] not in (bytes([SET]), bytes([WITHDRAW])):
         return "the first byte is neither 01, set, nor 02, withdraw"
     size = 8 if body[0] == SET else 6

@@ -43,8 +43,8 @@ class Side:
         """A row in a line."""
         network = self.run.network
         sender = "%s: " % network.names[row.origin] if row.input == MSG else ""
-        return "%d  %s  %s  %s%s" % (row.number, network.seconds(self.run.moment(row)), network.names[row.router], sender,
-                                     row_words(network, row))
+        time, name = network.seconds(self.run.moment(row)), network.names[row.router]
+        return "%d  %s  %s  %s%s" % (row.number, time, name, sender, row_words(network, row))
 
 
 def bare_row(names: list[str], row: Row) -> tuple:

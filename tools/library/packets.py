@@ -15,8 +15,6 @@ HELLO, UPDATE, ACKNOWLEDGEMENT = "hello", "update", "acknowledgement"
 REQUEST, RESPONSE, FLOODED, MALFORMED = "request", "response", "flooded", "malformed"
 KINDS = (HELLO, UPDATE, ACKNOWLEDGEMENT, REQUEST, RESPONSE, FLOODED, MALFORMED)
 LINK_KINDS = {1: "router", 2: "transit", 3: "network", 4: "virtual link"}
-TOS_FREE = 0
-TRANSIT, VIRTUAL = 2, 4
 NORMAL_OPTIONS = 2
 
 

@@ -15,8 +15,8 @@ from .tool import BadInput
 
 CLASSES = {b"t": 0, b"x": 1, b"m": 2}
 NUMBER = rb"(0|[1-9][0-9]{0,19})"
-ROW = re.compile(rb"N N ([txm]) ([0-9a-f]{16}) N N ([a-z0-9]+) (?:(tick)|(cmd) ([0-9a-f]+)|(down|up) N|(msg) N ([0-9a-f]+|-))"
-                 .replace(b"N", NUMBER))
+INPUT = rb"(tick)|(cmd) ([0-9a-f]+)|(down|up) N|(msg) N ([0-9a-f]+|-)"
+ROW = re.compile((rb"N N ([txm]) ([0-9a-f]{16}) N N ([a-z0-9]+) (?:" + INPUT + rb")").replace(b"N", NUMBER))
 ROW_SHAPE = "a row is GROUP SUM CLASS TIE ORIGIN SEQ NAME INPUT"
 STATE_SHAPE = "a state is: state NAME SENDS MASK IMAGE"
 

@@ -23,15 +23,15 @@ from .steps import Walk
 from .tool import TOP, BadInput
 
 CAUSES = "|".join((*TABLE, "journal"))
-LINE = re.compile(r"(?:defined: )?(?:line (\d+): (" + CAUSES + r")|illegal step (\d+)|differs at (\d+)|(open|usage|cut|too big|"
-                  r"read fault|write fault|no memory))\s*")
+OTHERS = "open|usage|cut|too big|read fault|write fault|no memory"
+LINE = re.compile(r"(?:defined: )?(?:line (\d+): (%s)|illegal step (\d+)|differs at (\d+)|(%s))\s*" % (CAUSES, OTHERS))
 COMMANDS = """defined run < CASE                           handles the case; writes the recording and the trace
 defined lockstep < CASE                      the same
 defined check < CASE-AND-TRACE               is the trace the case's?
 defined rerun < CASE-AND-JOURNAL             takes the journal's steps
 defined shake NUMBER --steps M < CASE        takes steps drawn from NUMBER, at most M (1 to 1,000,000)"""
-STEP_FORMS = ("beacon", "inject @GROUP NAME cmd HEX (or down PORT, or up PORT)", "close", "deliver PLACE", "handle NAME",
-              "rollback NAME", "commit", "end journal N")
+STEP_FORMS = ("beacon", "inject @GROUP NAME cmd HEX (or down PORT, or up PORT)", "close", "deliver PLACE",
+              "handle NAME", "rollback NAME", "commit", "end journal N")
 STEP_WORDS = ("beacon", "inject", "close", "deliver", "handle", "rollback", "commit", "end")
 
 
@@ -81,8 +81,8 @@ def refusal_words(line: str, data: bytes) -> list[str]:
 PLAIN = {
     "usage": ["the words behind the program's name are none of its commands:", *COMMANDS.split("\n")],
     "read fault": ["standard input can't be read: it is closed, or a folder; give a file: ./defined run < FILE"],
-    "write fault": ["standard output can't be written: it is closed, or the disk or the pipe behind it is full or gone; "
-                    "what was written is a beginning of the output"],
+    "write fault": ["standard output can't be written: it is closed, or the disk or the pipe behind it is full or "
+                    "gone; what was written is a beginning of the output"],
     "no memory": ["memory was short; what was written, if anything, is a beginning of the output"],
 }
 
@@ -141,8 +141,8 @@ def journal_line_words(section: Section, place: int, number: int) -> list[str]:
     """What is wrong with a line of the journal, the place-th of it."""
     lines = section.lines
     if section.is_behind_unfinished:
-        return ["line %d: the trace before it has no last line (end trace N), so all up to the end is taken as trace, and "
-                "no journal is left; take the trace out, or end it" % number]
+        return ["line %d: the trace before it has no last line (end trace N), so all up to the end is taken as trace, "
+                "and no journal is left; take the trace out, or end it" % number]
     if place > len(lines):
         missing = '"journal", the first line of a journal' if place == 1 else '"end journal %d"' % (place - 2)
         return ["line %d: the text ends here; expected %s" % (number, missing)]
@@ -181,7 +181,8 @@ def step_fault(case: Case, line: bytes, steps: int) -> list[str]:
     fields = line.split(b" ")
     word = fields[0].decode("ascii", "replace")
     if word not in STEP_WORDS:
-        return ["the steps are: " + "; ".join(STEP_FORMS)] if line else ["the line is empty; a journal has no empty lines"]
+        forms = "the steps are: " + "; ".join(STEP_FORMS)
+        return [forms if line else "the line is empty; a journal has no empty lines"]
     if is_step(case, line) or line == b"end journal %d" % steps:
         return []
     form = STEP_FORMS[STEP_WORDS.index(word)]
@@ -319,8 +320,8 @@ def right_trace(text: bytes, case: Case) -> tuple[bytes, str]:
 
 def cut_words(_: Told, data: bytes) -> list[str]:
     """`cut`."""
-    return ["this is no refusal: the run has more than 200,000 rows, and the trace is cut there; fewer groups, routers or "
-            "commands make it shorter"]
+    return ["this is no refusal: the run has more than 200,000 rows, and the trace is cut there; fewer groups, routers "
+            "or commands make it shorter"]
 
 
 AFTER_CASES: dict[str, Callable[[Told, bytes], list[str]]] = {

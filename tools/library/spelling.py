@@ -1,4 +1,4 @@
-"""What is wrong with the spelling of a line or a field of a case or journal, in words (docs/FORMATS.md, "Case text")."""
+"""What is wrong with the spelling of a line or field of a case or journal, in words (docs/FORMATS.md, "Case text")."""
 
 from model.case import KINDS
 from model.numbers import DIGITS, HEX_DIGITS, LOWER, decimal, is_name, unhex

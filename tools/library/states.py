@@ -39,7 +39,8 @@ def guest_words(network: Network, router: int, guest: Flood | Ospf | Rip) -> lis
         return ospf_words(network, router, guest)
     if isinstance(guest, Rip):
         return rip_words(network, router, guest)
-    return ["holds %s (%s)" % (body.hex(), bytes_words(len(body))) for body in sorted(guest.bodies)] or ["holds nothing"]
+    held = ["holds %s (%s)" % (body.hex(), bytes_words(len(body))) for body in sorted(guest.bodies)]
+    return held or ["holds nothing"]
 
 
 def ospf_words(network: Network, router: int, guest: Ospf) -> list[str]:

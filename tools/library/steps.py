@@ -24,8 +24,8 @@ def event_words(network: Network, event: tuple) -> str:
     if entry[0] == MSG:
         return "a message of %s to %s at port %d, %s s: %s" % (
             network.names[key[4]], name, entry[1], time, input_words(network, router, entry, key[4]))
-    what = "command" if entry[0] == CMD else "port change"
-    return "the %s of %s s at %s: %s" % (what, time, name, input_words(network, router, entry).removeprefix("command: "))
+    what, words = "command" if entry[0] == CMD else "port change", input_words(network, router, entry)
+    return "the %s of %s s at %s: %s" % (what, time, name, words.removeprefix("command: "))
 
 
 @dataclass
@@ -147,7 +147,8 @@ class Walk:
 
     def coming_words(self) -> str:
         """The next external of the feed, as its line."""
-        return "the next external of the case is %s" % self.line(("inject", self.world.next_external()))[len("inject "):]
+        line = self.line(("inject", self.world.next_external()))
+        return "the next external of the case is " + line.removeprefix("inject ")
 
     def inject_refusal(self, external) -> str:
         """Why an external can't be accepted now."""

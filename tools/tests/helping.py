@@ -78,7 +78,7 @@ def lockstep(text: bytes) -> bytes:
 
 
 def generated(count: int, most: int = 3500) -> Iterator[tuple[str, bytes, Run]]:
-    """Runs of the profiles of `reference/inputs`, each with a name, its text and the records; none above `most` rows."""
+    """Runs of the profiles of `reference/inputs`, each with its name, text and records; none above `most` rows."""
     number, given = 0, 0
     while given < count:
         name, text, run = profile_run(number)

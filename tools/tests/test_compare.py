@@ -27,8 +27,9 @@ class Comparing(unittest.TestCase):
         self.assertEqual(done.returncode, 0, done.stdout)
 
     def test_link_that_stays_down(self):
-        """The first row that differs is the one of the port that goes up in one of them, and one router's routes differ."""
-        text = b"".join(line for line in example("six_routers", ".case").splitlines(True) if not line.startswith(b"@120"))
+        """The first row that differs is that of the port that goes up in one of them; one router's routes differ."""
+        lines = example("six_routers", ".case").splitlines(True)
+        text = b"".join(line for line in lines if not line.startswith(b"@120"))
         done = with_file(example("six_routers"), lockstep(text), "--lines", "2", "--before", "1", "--width", "100")
         self.assertEqual(done.returncode, 1)
         lines = done.stdout.decode().splitlines()

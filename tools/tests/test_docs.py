@@ -36,7 +36,8 @@ class Shown(unittest.TestCase):
     def compare(self, section: str) -> None:
         """Plays the blocks of a section in a folder that looks as the repository does."""
         with tempfile.TemporaryDirectory() as folder:
-            for name, target in (("defined", built_program()), ("tools", TOP + "/tools"), ("examples", TOP + "/examples")):
+            targets = {"defined": built_program(), "tools": TOP + "/tools", "examples": TOP + "/examples"}
+            for name, target in targets.items():
                 os.symlink(target, os.path.join(folder, name))
             with open(os.path.join(folder, "my.case"), "w", encoding="ascii") as file:
                 file.write(MY_CASE)

@@ -18,7 +18,8 @@ from model.events import CMD, DOWN, UP, input_text
 from model.guests.ospf import wire as ospf
 from model.guests.rip import wire as rip
 
-CASE = b"defined 1\nperiod 100\ngroups 2\nseed 0\nrouter a flood\nrouter b flood\nlink a b 1 1\nfeed\n@0 a cmd 41\nend\n"
+CASE = (b"defined 1\nperiod 100\ngroups 2\nseed 0\nrouter a flood\nrouter b flood\nlink a b 1 1\n"
+        b"feed\n@0 a cmd 41\nend\n")
 
 
 class Reading(unittest.TestCase):

@@ -1,6 +1,6 @@
 """The link state database: a map from an LSA's name to what is kept of it (12 to 14)."""
 
-from dataclasses import dataclass, replace
+from dataclasses import dataclass
 
 from .lsa import HEAD_SIZE, MAX_AGE, ROUTER_LSA, Head, Lsa, fletcher_set
 
@@ -19,6 +19,10 @@ class Kept:
     sent: int | None = None
     foreign: bool = False
 
+    def fork(self):
+        """An equal one that changes by itself."""
+        return Kept(self.lsa, self.installed, self.flooded, self.sent, self.foreign)
+
 
 class Lsdb:
     """The database of a router; `old` are the names of the LSAs that are kept at MaxAge."""
@@ -29,7 +33,7 @@ class Lsdb:
     def fork(self):
         """An equal database that changes by itself."""
         other = Lsdb()
-        other.map, other.old = {key: replace(kept) for key, kept in self.map.items()}, set(self.old)
+        other.map, other.old = {key: kept.fork() for key, kept in self.map.items()}, set(self.old)
         return other
 
     def get(self, key):
