@@ -127,8 +127,8 @@ def placed(play: Playback, message: Message) -> bytes:
     if packet.kind == ospf.UPDATE and place_of is not None:
         lsas = [relinked(lsa, place_of, play.our_id) for lsa in packet.body]
         if lsas != packet.body:
-            play.note(message, f"links to {dotted(place_of)} are written as to ours, {dotted(play.our_id)}, with new LS "
-                      "checksums")
+            play.note(message, f"links to {dotted(place_of)} are written as to ours, {dotted(play.our_id)}, with new "
+                      "LS checksums")
             return ospf.encode_update(packet.router, lsas)
     return message.body
 

@@ -322,7 +322,8 @@ function readAddress(page) {
                    routers: named(data.routers, parts.get("without"), new Set()) };
   byId("find").value = parts.get("find") || "";
   view.setState({ filter, find: parts.get("find") || "", texts: parts.get("text") !== "no",
-                  chosen: chosenOf(view, parts), scale: parts.get("scale") === BY_TIME ? BY_TIME : BY_ROWS, column: numberOf(parts, "column", 0) });
+                  chosen: chosenOf(view, parts), scale: parts.get("scale") === BY_TIME ? BY_TIME : BY_ROWS,
+                  column: numberOf(parts, "column", 0) });
   view.state.zoom = numberOf(parts, "zoom", view.state.zoom);
   makeKinds(page);
   makeRouters(page);

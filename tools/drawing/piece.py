@@ -143,4 +143,5 @@ def arrow(chosen: list[Item], place: int, y: float, colour: str, dashes: str) ->
     dash = f' stroke-dasharray="{dashes}"' if dashes else ""
     return [f'<line x1="{x0}" y1="{y0:.1f}" x2="{x1 - 5 * dx:.1f}" y2="{y - 5 * dy:.1f}" stroke="{colour}" '
             f'stroke-width="1.3"{dash}/>', f'<polygon points="{points}" fill="{colour}"/>',
-            f'<text x="{x1 - 12 if left else x1 + 12:.1f}" y="{y + 3.5:.1f}" text-anchor="{anchor}" fill="{colour}" stroke="#ffffff" stroke-width="3" paint-order="stroke" font-size="10">{label}</text>']
+            f'<text x="{x1 - 12 if left else x1 + 12:.1f}" y="{y + 3.5:.1f}" text-anchor="{anchor}" fill="{colour}" '
+            f'stroke="#ffffff" stroke-width="3" paint-order="stroke" font-size="10">{label}</text>']

@@ -93,8 +93,8 @@ class Played(unittest.TestCase):
         self.assertEqual(case.count(b" cmd "), 1)
         case, told, run = played(capture, "--split")
         self.assertIn("it is sent as 8 packets", told)
-        updates = [wire.decode(row.body).body for row in run.rows if row.input == CMD and wire.decode(row.body).kind == 4]
-        self.assertEqual([lsa for one in updates for lsa in one], lsas)
+        packets = [wire.decode(row.body) for row in run.rows if row.input == CMD]
+        self.assertEqual([lsa for one in packets if one.kind == wire.UPDATE for lsa in one.body], lsas)
 
     def test_what_is_left_out(self):
         """Packets that ours doesn't know are told one by one."""
@@ -137,8 +137,8 @@ class BadInputs(unittest.TestCase):
         """Each with a part of what is told."""
         good = pcap([(0.0, ospf(0, 0, wire.encode_hello(7, [])))])
         both = pcap([(0.0, ospf(0, 0, wire.encode_hello(7, []))), (0.0, internet.datagram("rip", 0, 0, bytes(24)))])
-        cases = (((), b"", "neither pcap nor pcapng"), ((), good[:-5], "ends within it"), ((), pcap([]), "no OSPF or RIP"),
-                 ((), both, "--kind says"), ((), pcap([(0.0, b"x")], link=9), "link type 9"),
+        cases = (((), b"", "neither pcap nor pcapng"), ((), good[:-5], "ends within it"),
+                 ((), pcap([]), "no OSPF or RIP"), ((), both, "--kind says"), ((), pcap([(0.0, b"x")], link=9), "link type 9"),
                  (("--as", "x"), good, "A.B.C.D"), (("--delay", "0"), good, "--delay 0"),
                  (("--from", "1.2.3.4"), good, "no OSPF or RIP"))
         for words, text, told in cases:

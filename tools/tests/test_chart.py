@@ -216,8 +216,8 @@ class Browser(unittest.TestCase):
                 width, height = SIZES[number]
                 for theme in ("light", "dark"):
                     shot = self.screenshot(folder, text, words, theme, SIZES[number])
-                    self.assertEqual((shot[1:4], int.from_bytes(shot[16:20], "big"), int.from_bytes(shot[20:24], "big")),
-                                     (b"PNG", width, height))
+                    size = int.from_bytes(shot[16:20], "big"), int.from_bytes(shot[20:24], "big")
+                    self.assertEqual((shot[1:4], *size), (b"PNG", width, height))
                     self.assertGreater(len(shot), 30_000)
 
     def screenshot(self, folder: str, text: bytes, words: tuple, theme: str, size: tuple[int, int]) -> bytes:

@@ -44,8 +44,9 @@ class Shown(unittest.TestCase):
     def compare(self, section: str) -> None:
         """Plays the blocks of a section in a folder that looks as the repository does."""
         with tempfile.TemporaryDirectory() as folder:
-            for name, target in (("defined", built_program()), ("tools", TOP + "/tools"), ("examples", TOP + "/examples")):
-                os.symlink(target, os.path.join(folder, name))
+            os.symlink(built_program(), os.path.join(folder, "defined"))
+            for name in ("tools", "examples"):
+                os.symlink(os.path.join(TOP, name), os.path.join(folder, name))
             os.environ["PROGRAM"] = built_program()
             blocks = test_docs.blocks_of(section)
             self.assertTrue(blocks)

@@ -67,7 +67,8 @@ class Forms(unittest.TestCase):
         """Node-link data, with the links under either name, and adjacency data."""
         for text in (NODE_LINK, {**NODE_LINK, "edges": NODE_LINK["links"], "links": None}):
             case, told = self.taken("--no-networks", text=json.dumps(text))
-            self.assertEqual(case[4:8], ["router a1 rip", "router r2 ospf", "link a1 r2 8 3", "prefix a1 10.1.0.0/16 2"])
+            self.assertEqual(case[4:8], ["router a1 rip", "router r2 ospf", "link a1 r2 8 3",
+                                         "prefix a1 10.1.0.0/16 2"])
             self.assertIn("import: router r2: colour 'red' not taken", told)
         adjacency = {"directed": True, "multigraph": False, "graph": [], "nodes": [{"id": "x"}, {"id": "y"}],
                      "adjacency": [[{"id": "y", "cost": 4}], [{"id": "x", "cost": 5}]]}
@@ -91,7 +92,8 @@ class Forms(unittest.TestCase):
         self.assertEqual(case[4:], ["router r1 ospf", "router r2 ospf", "router r3 ospf", "link r1 r2 10 5",
                                     "link r2 r3 10 10", "prefix r1 10.255.0.1/32 1", "prefix r1 192.168.1.0/24 10",
                                     "feed", "end"])
-        for line in ("r1: \"router bgp 65000\" not taken", "r3: interface eth1: 10.3.0.0/24 isn't told by ospf; not taken",
+        for line in ("r1: \"router bgp 65000\" not taken",
+                     "r3: interface eth1: 10.3.0.0/24 isn't told by ospf; not taken",
                      "link r1 r2: cost 5 and 10 the other way; a link has one cost, the first is taken"):
             self.assertIn("import: " + line, told)
 
@@ -124,14 +126,14 @@ class BadInputs(unittest.TestCase):
     def test_bad_inputs(self):
         """Each with a part of what is told."""
         named = b'period=1\n[[router]]\nname="a"\n'
-        cases = ((b"", "looks like none of"), (b"{", "no JSON"), (b"{}", "no JSON of networkx"), (b"period = ", "no TOML"),
-                 (b"colour = 1", 'has the key "colour"'), (b'routers = "x"', 'has the key "routers"'),
+        cases = ((b"", "looks like none of"), (b"{", "no JSON"), (b"{}", "no JSON of networkx"),
+                 (b"period = ", "no TOML"), (b"colour = 1", 'has the key "colour"'), (b'routers = "x"', 'has the key "routers"'),
                  (b'[[router]]\nname="a"\nkind="bgp"', 'kind "bgp"'), (b"period=0\n" + named[9:], "range"),
                  (named + b'[[link]]\nends=["a","b"]', "no router b"),
                  (b'feed=["@5 down a b"]\n' + named, "no router is called b"),
                  (b'feed=["@999 a cmd 41"]\n' + named, "group 999, and the last one is 199"),
-                 (b'feed=["@5 a shut 1"]\n' + named, "neither words"), (b'{"routers": []}', "no topology of a topotest"),
-                 (b"defined 1\n", "no line feed"), (b"<graphml", "no GraphML"))
+                 (b'feed=["@5 a shut 1"]\n' + named, "neither words"),
+                 (b'{"routers": []}', "no topology of a topotest"), (b"defined 1\n", "no line feed"), (b"<graphml", "no GraphML"))
         for text, words in cases:
             done = tool("import", text=text)
             self.assertNotEqual(done.returncode, 0, text)

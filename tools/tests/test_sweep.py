@@ -129,7 +129,8 @@ class Cluster(unittest.TestCase):
         """A program that isn't there is told as one."""
         environment = {**os.environ, "PROGRAM": "/nowhere/defined"}
         path = os.path.join(os.path.dirname(os.path.dirname(os.path.abspath(__file__))), "sweep")
-        done = subprocess.run([path, "--seeds", "0-3"], input=DIAMOND, capture_output=True, check=False, env=environment)
+        done = subprocess.run([path, "--seeds", "0-3"], input=DIAMOND, capture_output=True, check=False,
+                              env=environment)
         self.assertEqual((done.returncode, b"can't run /nowhere/defined" in done.stderr), (1, True), done.stderr)
 
 

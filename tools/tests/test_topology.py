@@ -45,8 +45,9 @@ class Pictures(unittest.TestCase):
 
     def test_bad_inputs(self):
         """A bad case and options that name nothing."""
-        for words, text, told in (((), b"x", "line 1"), (("--at", "200"), example("six_routers", ".case"), "groups 0 to 199"),
-                                  (("--tree", "z"), example("six_routers", ".case"), "no router is called")):
+        six = example("six_routers", ".case")
+        for words, text, told in (((), b"x", "line 1"), (("--at", "200"), six, "groups 0 to 199"),
+                                  (("--tree", "z"), six, "no router is called")):
             done = tool("topology", *words, text=text)
             self.assertEqual((done.returncode, told in done.stderr.decode()), (1, True), done.stderr)
 
