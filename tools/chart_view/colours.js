@@ -17,11 +17,13 @@ const KINDS = {
 
 const LIGHT = {
   ground: "#ffffff", text: "#1b1b1b", faint: "#6b6b6b", line: "#d9d9d9", moment: "#ececec", head: "#f6f6f6",
-  chosen: "#dcebf7", mark: "#f3d250", parted: "#cc79a7", found: "#fff3bf", lost: "#9a9a9a",
+  chosen: "#dcebf7", mark: "#d9a800", parted: "#b3598c", markBand: "#f9e79f", partedBand: "#eecbde",
+  found: "#fff7d6", lost: "#9a9a9a",
 };
 const DARK = {
   ground: "#15181c", text: "#e8e8e8", faint: "#9da3aa", line: "#3a4048", moment: "#262b31", head: "#1d2126",
-  chosen: "#243a4f", mark: "#d1a800", parted: "#e08fbd", found: "#4a431a", lost: "#777d85",
+  chosen: "#243a4f", mark: "#d1a800", parted: "#e08fbd", markBand: "#6b5600", partedBand: "#6b3456",
+  found: "#3d3818", lost: "#777d85",
 };
 
 export function colours(isDark) {

@@ -73,8 +73,8 @@ function paintBands(context, pane, frame, theme, sight) {
 }
 
 function bandColour(pane, frame, theme, row) {
-  if (pane.marked === row) return theme.mark;
-  if (pane.parted === row) return theme.parted;
+  if (pane.marked === row) return theme.markBand;
+  if (pane.parted === row) return theme.partedBand;
   if (pane.chosen === row) return theme.chosen;
   return frame.matches !== null && frame.matches[pane.run.text[row]] ? theme.found : null;
 }

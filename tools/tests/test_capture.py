@@ -138,7 +138,8 @@ class BadInputs(unittest.TestCase):
         good = pcap([(0.0, ospf(0, 0, wire.encode_hello(7, [])))])
         both = pcap([(0.0, ospf(0, 0, wire.encode_hello(7, []))), (0.0, internet.datagram("rip", 0, 0, bytes(24)))])
         cases = (((), b"", "neither pcap nor pcapng"), ((), good[:-5], "ends within it"),
-                 ((), pcap([]), "no OSPF or RIP"), ((), both, "--kind says"), ((), pcap([(0.0, b"x")], link=9), "link type 9"),
+                 ((), pcap([]), "no OSPF or RIP"), ((), both, "--kind says"),
+                 ((), pcap([(0.0, b"x")], link=9), "link type 9"),
                  (("--as", "x"), good, "A.B.C.D"), (("--delay", "0"), good, "--delay 0"),
                  (("--from", "1.2.3.4"), good, "no OSPF or RIP"))
         for words, text, told in cases:

@@ -176,7 +176,7 @@ class Browser(unittest.TestCase):
                 file.write(page)
             done = subprocess.run([*CHROMIUM, f"--user-data-dir={folder}/chromium", "--window-size=1400,900",
                                    "--virtual-time-budget=8000", "--dump-dom", "file://" + path],
-                                  capture_output=True, check=True, timeout=120)
+                                  capture_output=True, check=True, timeout=300)
         found = re.search(r'<pre id="seen">(.*?)</pre>', done.stdout.decode())
         self.assertIsNotNone(found, done.stderr.decode()[-2000:])
         return json.loads(html.unescape(found.group(1)))
@@ -227,7 +227,7 @@ class Browser(unittest.TestCase):
         self.assertEqual(made.returncode, 0, made.stderr.decode())
         subprocess.run([*CHROMIUM, f"--user-data-dir={folder}/chromium", "--window-size=%d,%d" % size,
                         "--virtual-time-budget=3000", "--screenshot=" + shot, f"file://{path}#theme={theme}"],
-                       capture_output=True, check=True, timeout=120)
+                       capture_output=True, check=True, timeout=300)
         with open(shot, "rb") as file:
             return file.read()
 

@@ -127,13 +127,15 @@ class BadInputs(unittest.TestCase):
         """Each with a part of what is told."""
         named = b'period=1\n[[router]]\nname="a"\n'
         cases = ((b"", "looks like none of"), (b"{", "no JSON"), (b"{}", "no JSON of networkx"),
-                 (b"period = ", "no TOML"), (b"colour = 1", 'has the key "colour"'), (b'routers = "x"', 'has the key "routers"'),
+                 (b"period = ", "no TOML"), (b"colour = 1", 'has the key "colour"'),
+                 (b'routers = "x"', 'has the key "routers"'),
                  (b'[[router]]\nname="a"\nkind="bgp"', 'kind "bgp"'), (b"period=0\n" + named[9:], "range"),
                  (named + b'[[link]]\nends=["a","b"]', "no router b"),
                  (b'feed=["@5 down a b"]\n' + named, "no router is called b"),
                  (b'feed=["@999 a cmd 41"]\n' + named, "group 999, and the last one is 199"),
                  (b'feed=["@5 a shut 1"]\n' + named, "neither words"),
-                 (b'{"routers": []}', "no topology of a topotest"), (b"defined 1\n", "no line feed"), (b"<graphml", "no GraphML"))
+                 (b'{"routers": []}', "no topology of a topotest"), (b"defined 1\n", "no line feed"),
+                 (b"<graphml", "no GraphML"))
         for text, words in cases:
             done = tool("import", text=text)
             self.assertNotEqual(done.returncode, 0, text)

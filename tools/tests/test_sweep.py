@@ -29,7 +29,7 @@ feed
 end
 """
 WORDS = ("--seeds", "0-19,50", "--factors", "1,0.5")
-START_SECONDS = 40
+START_SECONDS = 120
 
 
 @needs_defined
@@ -111,7 +111,7 @@ class Cluster(unittest.TestCase):
         for process in reversed(cls.started):
             process.send_signal(signal.SIGTERM)
         for process in cls.started:
-            process.wait(timeout=20)
+            process.wait(timeout=60)
         cls.folder.cleanup()
 
     def test_same_table(self):
