@@ -153,6 +153,14 @@ class BadInputs(unittest.TestCase):
         self.assertEqual(done.returncode, 0)
         self.assertEqual(done.stdout.count(b"\nrouter "), 64)
 
+    def test_many_links(self):
+        """A 17th port of a router isn't taken, and told."""
+        star = {"routers": {"hub": {"links": {"r1-l%d" % n: {} for n in range(18)}},
+                            "r1": {"links": {"hub-l%d" % n: {} for n in range(18)}}}}
+        done = tool("import", text=json.dumps(star))
+        self.assertEqual((done.returncode, done.stdout.count(b"\nlink ")), (0, 16))
+        self.assertEqual(done.stderr.count(b"link hub r1: hub has 16 ports already; not taken"), 2)
+
 
 if __name__ == "__main__":
     unittest.main()
