@@ -1,4 +1,4 @@
-"""The first bad line of a case in words: what is wrong with it, and what could stand there."""
+"""The first bad line of a case in words: what is wrong with it, and what could be there."""
 
 import difflib
 from dataclasses import dataclass, field
@@ -18,11 +18,11 @@ MOST_NAMES = 12
 FORMS = {"defined": "defined 1", "period": "period N", "groups": "groups N", "seed": "seed N",
          "router": "router NAME KIND", "link": "link NAME NAME DELAY COST", "prefix": "prefix NAME A.B.C.D/LEN COST",
          "feed": "feed", "external": "@GROUP NAME cmd HEX (or down PORT, or up PORT)", "end": "end"}
-PLACES = {"defined": "the first line", "period": "the second line", "groups": "the line behind period",
-          "seed": "the line behind groups", "router": "behind the line seed and before all links, prefixes and feed",
-          "link": "behind the routers and before all prefixes and feed",
-          "prefix": "behind the routers and links and before feed", "feed": "once, behind routers, links and prefixes",
-          "external": "between feed and end", "end": "behind the feed; a case ends there"}
+PLACES = {"defined": "the first line", "period": "the second line", "groups": "the line after period",
+          "seed": "the line after groups", "router": "after the line seed and before all links, prefixes and feed",
+          "link": "after the routers and before all prefixes and feed",
+          "prefix": "after the routers and links and before feed", "feed": "once, after routers, links and prefixes",
+          "external": "between feed and end", "end": "after the feed; a case ends there"}
 FIELDS = {"defined": (number_fault,), "period": (number_fault,), "groups": (number_fault,), "seed": (number_fault,),
           "router": (name_fault, kind_fault), "link": (name_fault, name_fault, number_fault, number_fault),
           "prefix": (name_fault, net_fault, number_fault), "feed": (), "end": ()}
@@ -30,7 +30,7 @@ FIELDS = {"defined": (number_fault,), "period": (number_fault,), "groups": (numb
 
 @dataclass
 class BadLine:
-    """The first bad line of a text that begins with no case, and what stands before it.
+    """The first bad line of a text that begins with no case, and what comes before it.
 
     `kinds` are the kinds of the lines before; `shape` is the line's as `model.shapes` has it, or None.
     """
@@ -75,7 +75,7 @@ def bad_line(data: bytes) -> BadLine | None:
 
 
 def wanted(bad: BadLine) -> str:
-    """The lines that may stand there."""
+    """The lines that may be there."""
     forms = ['"%s"' % FORMS[kind] for kind in NEXT[bad.before]]
     return forms[0] if len(forms) == 1 else ", ".join(forms[:-1]) + " or " + forms[-1]
 
@@ -96,7 +96,7 @@ def case_fault_words(bad: BadLine) -> list[str]:
 
 
 def syntax_words(bad: BadLine) -> list[str]:
-    """A line that may not stand at its place, or isn't spelled as one."""
+    """A line that may not be at its place, or isn't spelled as one."""
     lines = ["line %d: expected %s, found %s" % (bad.number, wanted(bad), quoted(bad.line))]
     told = oddities(bad.line, bad.number)
     lines += told
@@ -119,8 +119,8 @@ def syntax_words(bad: BadLine) -> list[str]:
 def place_words(bad: BadLine) -> list[str]:
     """A right line at the wrong place: where it may stand."""
     kind = bad.shape[0]
-    words = "it is a right line, but at the wrong place: %s stands %s" % (
-        "an external" if kind == "external" else "a line \"%s\"" % FORMS[kind], PLACES[kind])
+    words = "it is a right line at the wrong place: %s comes %s" % (
+        "an external" if kind == "external" else "\"%s\"" % FORMS[kind], PLACES[kind])
     later = [other for other in ("link", "prefix", "feed") if other in bad.kinds]
     if kind in ("router", "link", "prefix") and later:
         blocking = [other for other in later if other != kind and kind not in NEXT[other]]
@@ -155,7 +155,7 @@ def external_field_words(fields: list[bytes]) -> list[str]:
     """Why a line that begins with @ is no external."""
     group = number_fault(fields[0][1:])
     if group:
-        return ["the group behind @: " + group]
+        return ["the group after @: " + group]
     if len(fields) != 4:
         return ["it has %s, and an external has 4: @GROUP NAME cmd HEX, @GROUP NAME down PORT or @GROUP NAME up PORT"
                 % counted(len(fields), "field", "fields")]

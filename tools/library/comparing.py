@@ -1,7 +1,7 @@
 """Two traces side by side, without their ties.
 
 Ties decide the order of messages of one moment, and another seed gives other ties, so two runs part only where a row
-differs in anything else. From there on the rows of each moment stand beside one another.
+differs in anything else. From there on the rows of each moment are side by side.
 """
 
 import difflib

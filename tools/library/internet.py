@@ -17,6 +17,7 @@ ALL_SPF_ROUTERS, RIP_ROUTERS, ALL_SYSTEMS = bytes((224, 0, 0, 5)), bytes((224, 0
 RIP_PORT = 520
 INTERNETWORK_CONTROL = 0xC0
 HEADER_SIZE = HEADER.size
+MOST_BODY = 0xFFFF - HEADER_SIZE - UDP.size
 
 
 def address(router: int) -> bytes:

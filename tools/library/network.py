@@ -79,7 +79,7 @@ class Network:
 
     @cached_property
     def digits(self) -> int:
-        """How many digits behind the point tell all moments apart: exact if the period is a power of ten."""
+        """How many digits after the point tell all moments apart: exact if the period is a power of ten."""
         text = str(self.case.period)
         return len(text) - 1 if text.strip("0") == "1" else GENERAL_DIGITS
 

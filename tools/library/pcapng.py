@@ -19,7 +19,7 @@ def padded(data: bytes) -> bytes:
 
 
 def block(kind: int, body: bytes) -> bytes:
-    """A block, with its length before and behind."""
+    """A block, with its length before and after."""
     size = 12 + len(body)
     return struct.pack("<II", kind, size) + body + struct.pack("<I", size)
 

@@ -125,14 +125,14 @@ def read_case(data: bytes) -> tuple[Case, int]:
 def case_fault(data: bytes) -> str:
     """What is wrong with a text that begins with no case, in lines."""
     if data.startswith(b"trace\n"):
-        return "this begins with a trace; its case must stand before it (give the whole output of the program)"
+        return "this begins with a trace; its case must come before it (give the whole output of the program)"
     if data.startswith(b"journal\n"):
-        return "this begins with a journal; its case must stand before it"
+        return "this begins with a journal; its case must come before it"
     return "it begins with no case:\n  " + "\n  ".join(case_fault_words(bad_line(data)))
 
 
 def read_run(data: bytes, need: str | None = None) -> Run:
-    """Reads a case, and the trace and the journal behind it if they are there; raises `BadInput`.
+    """Reads a case, and the trace and the journal after it if they are there; raises `BadInput`.
 
     `need` is `trace` or `journal` if one of them must be there.
     """
@@ -147,18 +147,18 @@ def read_run(data: bytes, need: str | None = None) -> Run:
     if rest:
         read_journal(run, rest, line + data.count(b"\n", length, length + section))
     if need == "trace" and not section:
-        raise BadInput("there is no trace behind the case; run it first: ./defined run < FILE")
+        raise BadInput("there is no trace after the case; run it first: ./defined run < FILE")
     if need == "journal" and run.steps is None:
-        raise BadInput("there is no journal behind the case; ./defined shake NUMBER --steps M writes one")
+        raise BadInput("there is no journal after the case; ./defined shake NUMBER --steps M writes one")
     return run
 
 
 def read_journal(run: Run, text: bytes, lines: int) -> None:
-    """Reads the journal; `lines` is how many lines stand before it."""
+    """Reads the journal; `lines` is how many lines come before it."""
     run.journal_line = lines + 1
     if not text.startswith(b"journal\n"):
         first = text.split(b"\n", 1)[0]
-        raise BadInput("line %d: a trace or a journal may stand here, but this is %s" % (lines + 1, quoted(first)))
+        raise BadInput("line %d: a trace or a journal may be here, but this is %s" % (lines + 1, quoted(first)))
     try:
         run.steps = journal.read_journal(run.case, text)
     except journal.JournalFault as fault:

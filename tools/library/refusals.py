@@ -79,9 +79,9 @@ def refusal_words(line: str, data: bytes) -> list[str]:
 
 
 PLAIN = {
-    "usage": ["the words behind the program's name are none of its commands:", *COMMANDS.split("\n")],
+    "usage": ["the arguments are none of its commands:", *COMMANDS.split("\n")],
     "read fault": ["standard input can't be read: it is closed, or a folder; give a file: ./defined run < FILE"],
-    "write fault": ["standard output can't be written: it is closed, or the disk or the pipe behind it is full or "
+    "write fault": ["standard output can't be written: it is closed, or the disk or the pipe that takes it is full or "
                     "gone; what was written is a beginning of the output"],
     "no memory": ["memory was short; what was written, if anything, is a beginning of the output"],
 }
@@ -112,7 +112,7 @@ class Section:
 
 
 def section_of(data: bytes) -> Section:
-    """What stands behind the case and its trace."""
+    """What comes after the case and its trace."""
     case, length = read_case(data)
     begin = length + trace.split_trace(data[length:])
     front = data[:begin]
@@ -148,11 +148,11 @@ def journal_line_words(section: Section, place: int, number: int) -> list[str]:
         return ["line %d: the text ends here; expected %s" % (number, missing)]
     line, is_ended = lines[place - 1], place < len(lines) or section.text.endswith(b"\n")
     if place > 1 and any(is_end(found) for found in lines[:place - 1]):
-        return ["line %d: the journal has ended, and nothing may stand behind it, found %s" % (number, quoted(line))]
+        return ["line %d: the journal has ended, and nothing may follow it, found %s" % (number, quoted(line))]
     if place == 1:
         words = ['line %d: expected "journal", found %s' % (number, quoted(line))]
         return words + oddities(line, 2) + newline_words(is_ended) + [
-            "the case ends above it; behind a case may stand its trace, and behind these must stand a journal"]
+            "the case ends above it; after a case may come its trace, and after these must come a journal"]
     words = ["line %d: expected a step, or the end of the journal, found %s" % (number, quoted(line))]
     words += oddities(line, 2) + newline_words(is_ended)
     fixed = repaired(line) if oddities(line, 2) else line
@@ -203,13 +203,13 @@ def end_fault(fields: list[bytes], steps: int) -> list[str]:
     if fields[:2] != [b"end", b"journal"] or len(fields) != 3:
         return ['the last line of a journal is "end journal %d" here' % steps]
     return number_fault(fields[2]) and [number_fault(fields[2])] or [
-        "%d steps stand before it, and it says %s; write: end journal %d" % (steps, fields[2].decode(), steps)]
+        "%d steps come before it, and it says %s; write: end journal %d" % (steps, fields[2].decode(), steps)]
 
 
 def inject_fault(case: Case, fields: list[bytes]) -> list[str]:
     """An inject step that isn't right."""
     if len(fields) < 2 or fields[1][:1] != b"@":
-        return ["behind inject stands an external, as in the feed: inject @GROUP NAME cmd HEX"]
+        return ["after inject comes an external, as in the feed: inject @GROUP NAME cmd HEX"]
     shape = external_shape(fields[1][1:], fields[2:])
     if shape is None:
         return external_field_words(fields[1:])
@@ -291,7 +291,7 @@ def line_words(text: bytes, place: int) -> str:
     stop = text.find(b"\n", place)
     line = text[begin:] if stop < 0 else text[begin:stop]
     if place == stop:
-        return "the end of the line behind %s" % quoted(line[-60:])
+        return "the end of the line after %s" % quoted(line[-60:])
     column = place - begin
     shown = line if len(line) <= 70 else line[max(0, column - 30):column + 40]
     return "%s at column %d: %s" % (quoted(line[column:column + 1]), column + 1, quoted(shown))
@@ -300,12 +300,12 @@ def line_words(text: bytes, place: int) -> str:
 def differs_advice(data: bytes, place: int, length: int) -> list[str]:
     """What a difference most often means."""
     if place == len(data) == length:
-        return ["there is no trace behind the case; check reads a case and its trace, as run writes them"]
+        return ["there is no trace after the case; check reads a case and its trace, as run writes them"]
     if data[place:].startswith(b"journal\n"):
         return ["a journal follows the trace; check reads a case and its trace alone, and rerun reads journals"]
     if place == len(data):
         return ["the input ends there: the trace isn't whole"]
-    return ["a carriage return stands there"] if data[place:place + 1] == b"\r" else []
+    return ["a carriage return is there"] if data[place:place + 1] == b"\r" else []
 
 
 def right_trace(text: bytes, case: Case) -> tuple[bytes, str]:

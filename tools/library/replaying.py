@@ -1,6 +1,6 @@
 """What the rows of a trace do to their routers: the model of `reference/` takes the rows one by one.
 
-A trace has the routers' final states alone. What stands between, and whether a router passed a row over, is computed
+A trace has the routers' final states alone. What is between, and whether a router passed a row over, is computed
 by the model, and compared with the final states of the trace where it has some (`differing_states`).
 """
 
@@ -60,7 +60,7 @@ def final_state(node: Node | None) -> tuple[int, int, bytes] | None:
 
 
 def reason_before(run: Run, node: Node, row: Row) -> str | None:
-    """Why a router as it stands passes a row over, or None if that isn't told by its state alone."""
+    """Why a router in its present state passes a row over, or None if that isn't told by its state alone."""
     if row.input == MSG and not node.is_up(row.port):
         return "port %d is down" % row.port
     guest = node.guest

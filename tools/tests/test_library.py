@@ -47,7 +47,7 @@ class Reading(unittest.TestCase):
                 (b"b msg 0 41", b"b msg 7 41", "no such input"), (b"b msg 0 41", b"b msg 0 4", "no such input"),
                 (b"end trace 6", b"end trace 7", 'line 20: "end trace 7", but the trace has 6 rows'),
                 (b"state a 1", b"state z 1", "a state is"), (b"end trace 6\n", b"", "no last line"),
-                (b"end trace 6\n", b"end trace 6\nx\n", "a trace or a journal may stand here"),
+                (b"end trace 6\n", b"end trace 6\nx\n", "a trace or a journal may be here"),
                 (b"end trace 6\n", b"end trace 6", "cut short"), (b"defined 1\n", b"", "begins with no case"),
                 (b"end trace 6\n", b"end trace 6\njournal\nhandle x\n", "is no line of a journal")):
             with self.assertRaises(BadInput, msg=words) as caught:
