@@ -27,8 +27,8 @@ class View:
 def dot_text(case: Case, view: View) -> str:
     """The text that Graphviz draws."""
     lines = ["graph network {",
-             f'  graph [label={quoted(view.title)}, labelloc=t, fontsize=13, fontname="{FONT}", overlap=false, splines=true,'
-             ' sep="+14", nodesep=0.5, bgcolor="white"];',
+             f'  graph [label={quoted(view.title)}, labelloc=t, fontsize=13, fontname="{FONT}", overlap=false,'
+             ' splines=true, sep="+14", nodesep=0.5, bgcolor="white"];',
              f'  node [style=filled, color="{UP_COLOUR}", fontname="{FONT}", fontsize=12];',
              f'  edge [fontname="{FONT}", fontsize=9, len=1.7];']
     lines += [node_line(case, number, view) for number in range(len(case.routers))]

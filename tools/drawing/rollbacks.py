@@ -1,7 +1,8 @@
-"""What a journal's steps take back: events that a router handled too early, and the messages that were unsent for it."""
+"""What a journal's steps take back: events that were handled too early, and the messages that were unsent for it."""
 
 from dataclasses import dataclass, field
 
+from library.steps import Walk
 from library.tool import BadInput
 from model.case import Case
 from model.world import World
@@ -29,10 +30,11 @@ class Story:
 
 def story_of(case: Case, steps: list[tuple]) -> Story:
     """Takes the steps one by one; raises `BadInput` at one that may not be taken."""
-    world, story = World(case), Story()
+    walk, story = Walk.begin(case), Story()
+    world = walk.world
     for number, step in enumerate(steps, 1):
         if not world.enabled(step):
-            raise BadInput(f"step {number} of the journal may not be taken: {' '.join(map(str, step))}")
+            raise BadInput(f"step {number} of the journal, {walk.line(step)}, may not be taken: {walk.refusal(step)}")
         if step[0] == "rollback":
             note_rollback(world, story, step[1], number)
         else:

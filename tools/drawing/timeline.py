@@ -1,18 +1,34 @@
 """A run as the rows of a chart: what comes where and when, who sent it and when, and what is said of it."""
 
-from dataclasses import dataclass
+from dataclasses import dataclass, replace
 
+from library.explaining import change_lines
+from library.network import Network
 from library.packets import FLOODED, KINDS, MALFORMED
 from library.reading import Row, Run
+from library.replaying import RouteWatch, taken_rows
 from library.rowwords import INPUT_KINDS, kind_of, row_words
 from library.tool import BadInput
-from model.events import DOWN, MSG, UP
+from model.events import MSG
 
 from .rollbacks import Event, Story, story_of
 
 CHART_KINDS = (*INPUT_KINDS.values(), *KINDS)
 LABELS = {"acknowledgement": "Ack", FLOODED: "bytes", MALFORMED: "no packet"}
-STANDS, PORT_DOWN, AGAIN, SENT_AGAIN, TAKEN_BACK, UNSENT = 0, 1, 2, 4, 8, 16
+PASSED_SIGN, ROUTES_SIGN, SEPARATOR = "\u00d7", "R", " \u00b7 "
+STANDS, PASSED_OVER, AGAIN, SENT_AGAIN, TAKEN_BACK, UNSENT, ROUTES = 0, 1, 2, 4, 8, 16, 32
+
+
+@dataclass
+class Effects:
+    """What the rows do, by the model: why a row was passed over, which routes it changes, which row sent a message.
+
+    Rows are told by their events, and messages by (sender, the sender's number).
+    """
+
+    passed: dict[Event, str]
+    changes: dict[Event, list[str]]
+    senders: dict[tuple[int, int], Event]
 
 
 @dataclass(slots=True)
@@ -20,9 +36,9 @@ class Item:
     """A row of the chart.
 
     `number` is the row's in the trace, from 1, or 0 for what the run took back. `sender` and `sent` are -1 for what
-    nobody sent; moments are counted from the beginning of the run. `flags` says what became of it: PORT_DOWN (it came
-    at a port that was down), AGAIN and SENT_AGAIN (it was taken back or unsent, and came again), TAKEN_BACK and UNSENT
-    (it was, and didn't come again).
+    nobody sent; moments are counted from the beginning of the run. `flags` says what became of it: PASSED_OVER (it did
+    nothing), AGAIN and SENT_AGAIN (it was taken back or unsent, and came again), TAKEN_BACK and UNSENT (it was, and
+    didn't come again), ROUTES (it changed the router's routes). `cause` is the event whose step sent it, if known.
     """
 
     number: int
@@ -34,26 +50,38 @@ class Item:
     flags: int
     words: str
     event: Event
+    cause: Event | None
 
 
-def items_of(run: Run) -> list[Item]:
+def items_of(run: Run, with_effects: bool = True) -> list[Item]:
     """The rows of a run; with a journal also what was taken back, in its place."""
     story = Story() if run.steps is None else story_of(run.case, run.steps)
     rows = run.rows if run.ending is not None else rows_of(story)
     if not rows:
         raise BadInput("there is neither a trace nor a journal behind the case; run it first: ./defined run < FILE")
-    down: set[tuple[int, int]] = set()
-    items = []
-    for row in rows:
-        change_port(down, row)
-        is_down = row.input == MSG and (row.router, row.port) in down
-        flags = PORT_DOWN if is_down else STANDS
-        flags |= (AGAIN if row.event in story.undone else 0) | (SENT_AGAIN if row.event in story.unsent else 0)
-        items.append(item_of(run, row, flags, story))
+    effects = effects_of(replace(run, rows=rows)) if with_effects else Effects({}, {}, {})
+    items = [item_of(run, row, standing_flags(row, story, effects), story, effects) for row in rows]
     standing = {row.event for row in rows}
     lost = [Row(0, 0, event) for event in (story.undone | story.unsent) - standing]
-    items += [item_of(run, row, UNSENT if row.event in story.unsent else TAKEN_BACK, story) for row in lost]
+    items += [item_of(run, row, UNSENT if row.event in story.unsent else TAKEN_BACK, story, effects) for row in lost]
     return sorted(items, key=lambda item: item.event)
+
+
+def effects_of(run: Run) -> Effects:
+    """What the rows do, by taking each of them in the model."""
+    effects, watch = Effects({}, {}, {}), RouteWatch(run)
+    sends = [0] * len(run.case.routers)
+    for taken in taken_rows(run):
+        event, router = taken.row.event, taken.row.router
+        if taken.passed_over is not None:
+            effects.passed[event] = taken.passed_over
+        changes = watch.changes(taken)
+        if changes:
+            effects.changes[event] = [line.strip() for line in change_lines(run.network, router, changes)]
+        for number in range(sends[router], taken.node.sends):
+            effects.senders[router, number] = event
+        sends[router] = taken.node.sends
+    return effects
 
 
 def rows_of(story: Story) -> list[Row]:
@@ -61,27 +89,37 @@ def rows_of(story: Story) -> list[Row]:
     return [Row(number, 0, event) for number, event in enumerate(story.handled, 1)]
 
 
-def change_port(down: set[tuple[int, int]], row: Row) -> None:
-    """Notes a port change."""
-    if row.input == DOWN:
-        down.add((row.router, row.port))
-    elif row.input == UP:
-        down.discard((row.router, row.port))
+def standing_flags(row: Row, story: Story, effects: Effects) -> int:
+    """What became of a row that stands in the trace."""
+    event = row.event
+    chosen = ((PASSED_OVER, effects.passed), (ROUTES, effects.changes),
+              (AGAIN, story.undone), (SENT_AGAIN, story.unsent))
+    return sum(flag for flag, events in chosen if event in events)
 
 
-def item_of(run: Run, row: Row, flags: int, story: Story) -> Item:
+def item_of(run: Run, row: Row, flags: int, story: Story, effects: Effects) -> Item:
     """The chart's row of a trace's row."""
-    network, moment = run.network, run.moment(row)
-    sender, sent = -1, -1
+    network, moment, event = run.network, run.moment(row), row.event
+    sender, sent, cause = -1, -1, None
     end = network.end(row.router, row.port) if row.input == MSG else None
     if end is not None:
         sender, sent = end.router, moment - end.delay
-    words = row_words(network, row)
-    if flags & PORT_DOWN:
-        words += " (passed over: the port is down)"
-    told = story.words.get(row.event)
-    return Item(row.number, moment, row.router, kind_of(network, row), sender, sent, flags,
-                words if not told else f"{words} [{'; '.join(told)}]", row.event)
+        cause = story.causes.get(event) or effects.senders.get((sender, row.seq))
+    words = all_words(network, row, story, effects)
+    return Item(row.number, moment, row.router, kind_of(network, row), sender, sent, flags, words, event, cause)
+
+
+def all_words(network: Network, row: Row, story: Story, effects: Effects) -> str:
+    """A row in words, behind why it was passed over and the routes that it changed, and before what a journal says."""
+    event, parts = row.event, []
+    if event in effects.passed:
+        parts.append(f"{PASSED_SIGN} passed over: {effects.passed[event]}")
+    if event in effects.changes:
+        front = f"routes of {network.names[row.router]}: "
+        parts.append(f"{ROUTES_SIGN} {'; '.join(line.removeprefix(front) for line in effects.changes[event])}")
+    words = SEPARATOR.join([*parts, row_words(network, row)])
+    told = story.words.get(event)
+    return words if not told else f"{words} [{'; '.join(told)}]"
 
 
 def label_of(kind: str) -> str:
@@ -92,21 +130,12 @@ def label_of(kind: str) -> str:
 def causes_of(items: list[Item]) -> list[int]:
     """Per row: the place of the row whose step sent it, or -1.
 
-    The trace doesn't say it. If the sender had several rows at that moment it is one with the same bytes (a flooding
-    router hands on what it gets), else the last of them.
+    Where it isn't known it is the sender's last row of that moment.
     """
-    places: dict[tuple[int, int], list[int]] = {}
-    for place, item in enumerate(items):
-        places.setdefault((item.router, item.moment), []).append(place)
-    return [cause_of(items, item, places.get((item.sender, item.sent), [])) for item in items]
-
-
-def cause_of(items: list[Item], item: Item, places: list[int]) -> int:
-    """The place of the row that sent an item, among those of its sender at that moment."""
-    for place in places:
-        if item.event[2][2] and items[place].event[2][2] == item.event[2][2]:
-            return place
-    return places[-1] if places else -1
+    places = {item.event: place for place, item in enumerate(items)}
+    last = {(item.router, item.moment): place for place, item in enumerate(items)}
+    return [places.get(item.cause, -1) if item.cause is not None else last.get((item.sender, item.sent), -1)
+            for item in items]
 
 
 def parting(one: list[Item], two: list[Item]) -> tuple[int, int] | None:

@@ -1,18 +1,16 @@
 """The forms that can be read, and how one is known by its look."""
 
-import json
 import os
-from typing import Any
 
 from library import tool
 from library.tool import BadInput
 
 from . import case_words, frr, graphml, node_link, toml_case, topotest
+from .jsons import json_of
 from .network import Network, Settings
 
 FORMS = {"graphml": graphml.read, "networkx": node_link.read, "topotest": topotest.read, "frr": frr.read,
          "toml": toml_case.read, "case": case_words.read}
-JSON_FORMS = ("networkx", "topotest")
 
 
 def read_network(paths: list[str], form: str | None, settings: Settings) -> Network:
@@ -22,8 +20,7 @@ def read_network(paths: list[str], form: str | None, settings: Settings) -> Netw
     if len(paths) > 1:
         raise BadInput("several files are read as configurations of FRR alone: *.conf, or --from frr")
     text = tool.read(paths[0] if paths else None)
-    form = form or look(text)
-    return FORMS[form](json_of(text) if form in JSON_FORMS else text, settings)
+    return FORMS[form or look(text)](text, settings)
 
 
 def is_frr(paths: list[str]) -> bool:
@@ -43,14 +40,3 @@ def look(text: bytes) -> str:
     if b"=" in text:
         return "toml"
     raise BadInput("this looks like none of " + ", ".join(FORMS) + "; --from says which it is")
-
-
-def json_of(text: bytes) -> dict[str, Any]:
-    """The object of a JSON text."""
-    try:
-        data = json.loads(text)
-    except ValueError as error:
-        raise BadInput(f"this is no JSON: {error}") from error
-    if not isinstance(data, dict):
-        raise BadInput("this JSON isn't an object")
-    return data

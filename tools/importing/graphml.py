@@ -12,7 +12,7 @@ from .network import Network, Settings
 
 def read(text: bytes, settings: Settings) -> Network:
     """The network of a GraphML text."""
-    networkx = load("networkx", "python3-networkx")
+    networkx = load("networkx", "python3-networkx", text)
     try:
         graph = networkx.read_graphml(io.BytesIO(text), force_multigraph=True)
     except (ParseError, networkx.NetworkXError, KeyError, ValueError, StopIteration) as error:

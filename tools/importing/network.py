@@ -92,22 +92,32 @@ class Network:
             node.prefixes.append((address, length, clamp(cost, 1, most_cost)))
 
     def add_link(self, a: str, b: str, delay: int, cost: int) -> None:
-        """A link more, if both routers have a port left; otherwise a note."""
-        what = f"link {self.nodes[a].name} {self.nodes[b].name}"
+        """A link more between two routers; a note if both are one."""
+        what = self.link_name(a, b)
         if a == b:
             self.note(f"{what}: both ends at one router")
-            return
-        for key in (a, b):
-            if self.port_count(key) >= limits.MAX_PORTS:
-                self.note(f"{what}: {self.nodes[key].name} has {limits.MAX_PORTS} ports already")
-                return
-        if len(self.edges) >= limits.MAX_LINKS:
-            self.note(f"{what}: a case has at most {limits.MAX_LINKS} links")
             return
         self.check_cost(what, cost, limits.MAX_COST)
         if not 1 <= delay <= limits.MAX_DELAY:
             self.note(f"{what}: delay {delay} is outside 1 to {limits.MAX_DELAY}; the nearest is taken")
         self.edges.append(Edge(a, b, clamp(delay, 1, limits.MAX_DELAY), clamp(cost, 1, limits.MAX_COST)))
+
+    def link_name(self, a: str, b: str) -> str:
+        """A link in a note."""
+        return f"link {self.nodes[a].name} {self.nodes[b].name}"
+
+    def keep_links(self) -> None:
+        """Keeps the links that a case can have, in their order; the others are noted."""
+        found, self.edges = self.edges, []
+        for edge in found:
+            full = [key for key in (edge.a, edge.b) if self.port_count(key) >= limits.MAX_PORTS]
+            what = self.link_name(edge.a, edge.b)
+            if full:
+                self.note(f"{what}: {self.nodes[full[0]].name} has {limits.MAX_PORTS} ports already; not taken")
+            elif len(self.edges) >= limits.MAX_LINKS:
+                self.note(f"{what}: a case has at most {limits.MAX_LINKS} links; not taken")
+            else:
+                self.edges.append(edge)
 
     def check_cost(self, what: str, cost: int, most: int) -> None:
         """Notes a cost that is out of range."""
@@ -126,7 +136,8 @@ class Network:
                 node.prefixes.append((0x0A000000 + (number << 8), 24, 1))
                 given.append(node.name)
         if given:
-            self.note(f"{len(given)} routers without a network of their own got 10.0.N.0/24 (--no-networks leaves this out)")
+            self.note(f"{len(given)} routers without a network of their own got 10.0.N.0/24 (--no-networks leaves this "
+                      "out)")
 
     def case(self) -> Case:
         """The case of the network, without its feed."""
@@ -158,18 +169,23 @@ def case_name(label: str, taken: set[str]) -> str:
     return name
 
 
-def keep_around(network: Network, name: str) -> None:
-    """Keeps the routers nearest to one, by links, as many as a case has."""
-    keys = [key for key, node in network.nodes.items() if node.name == name]
-    if not keys:
-        raise BadInput(f"--around {name}: no router has this name")
-    kept, place = keys, 0
+def nearest(network: Network, key: str) -> list[str]:
+    """The routers in the order of their distances from one, by links, as many as a case has."""
+    kept, place = [key], 0
     while place < len(kept) and len(kept) < limits.MAX_ROUTERS:
         here = kept[place]
         near = [edge.b if edge.a == here else edge.a for edge in network.edges if here in (edge.a, edge.b)]
         kept += [key for key in dict.fromkeys(near) if key not in kept]
         place += 1
-    kept = kept[:limits.MAX_ROUTERS]
+    return kept[:limits.MAX_ROUTERS]
+
+
+def keep_around(network: Network, name: str) -> None:
+    """Keeps the routers nearest to one, by links, as many as a case has."""
+    keys = [key for key, node in network.nodes.items() if node.name == name]
+    if not keys:
+        raise BadInput(f"--around {name}: no router has this name")
+    kept = nearest(network, keys[0])
     for key, node in network.nodes.items():
         if key not in kept:
             network.note(f"{node.name}: left out (--around {name})")
@@ -186,6 +202,7 @@ def case_text(network: Network) -> bytes:
     if len(network.nodes) > limits.MAX_ROUTERS:
         raise BadInput(f"{len(network.nodes)} routers, and a case has at most {limits.MAX_ROUTERS}; "
                           "--around NAME keeps the nearest ones to a router")
+    network.keep_links()
     if network.settings.networks:
         network.give_networks()
     case = network.case()

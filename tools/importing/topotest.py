@@ -10,6 +10,7 @@ from typing import Any
 from library.commands import read_net
 from library.tool import BadInput
 
+from .jsons import json_of
 from .network import Network, Settings
 
 # What says how the test is set up, and what our links don't have: addresses, since they are unnumbered.
@@ -17,8 +18,9 @@ SILENT_KEYS = {"ipv4", "ipv6", "type", "ospf", "link", "peer-interface"}
 OSPF_SILENT = {"area", "cost", "network"}
 
 
-def read(data: dict[str, Any], settings: Settings) -> Network:
+def read(text: bytes, settings: Settings) -> Network:
     """The network of a topotest's JSON."""
+    data = json_of(text)
     routers = data.get("routers")
     if not isinstance(routers, dict) or not all(isinstance(one, dict) for one in routers.values()):
         raise BadInput('this is no topology of a topotest: it has no "routers" that are objects')
@@ -130,7 +132,8 @@ def take_loopbacks(network: Network, routers: dict[str, Any], prefix: dict[str, 
             text = link["ipv4"]
             if text == "auto":
                 digits = "".join(letter for letter in name if letter.isdigit()) or "0"
-                text = f"{prefix.get('ipv4', '1.0.')}{int(digits)}.{ord(name[0].lower()) - 97}/{prefix.get('v4mask', 32)}"
+                letter = ord(name[0].lower()) - ord("a")
+                text = f"{prefix.get('ipv4', '1.0.')}{int(digits)}.{letter}/{prefix.get('v4mask', 32)}"
             try:
                 address, length = read_net(text)
             except BadInput as fault:

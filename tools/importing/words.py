@@ -8,7 +8,7 @@ A line is one of a case's feed, or one of these, which become such lines:
     @9 withdraw a 10.1.0.0/16         router a's network is withdrawn
 """
 
-from library.commands import as_command, command_bytes, link_externals, read_net
+from library.commands import as_command, command_bytes, link_externals
 from library.network import Network as Wiring
 from library.tool import BadInput
 from model.case import MAX_RIP_COST, Case, External

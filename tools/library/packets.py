@@ -3,6 +3,7 @@
 from dataclasses import dataclass
 from functools import lru_cache
 
+from model.case import MAX_PORTS
 from model.guests.ospf import wire as ospf
 from model.guests.ospf.lsa import POINT_TO_POINT, ROUTER_LSA, STUB, Head, Lsa, links_of
 from model.guests.rip import wire as rip
@@ -128,7 +129,9 @@ def link_words(link: tuple[int, int, int, int]) -> str:
     """A link of a router-LSA: `to 0.0.0.2 cost 1`, `10.9.0.0/16 cost 1`."""
     kind, link_id, data, metric = link
     if kind == POINT_TO_POINT:
-        return "to %s by port %d cost %d" % (dotted(link_id), data - 1, metric)
+        # A router here has its port's number plus 1 as the data of a link, a router of another kind an address.
+        end = "port %d" % (data - 1) if 1 <= data <= MAX_PORTS else dotted(data)
+        return "to %s by %s cost %d" % (dotted(link_id), end, metric)
     length = length_of(data)
     if kind == STUB and length is not None:
         return "%s cost %d" % (net(link_id, length), metric)

@@ -31,7 +31,7 @@ class Route:
 
 @dataclass(frozen=True)
 class Reached:
-    """A router of a shortest-path tree: its cost, the first ports of its shortest ways, and who is before it on them."""
+    """A router of a shortest-path tree: its cost, the first ports of its shortest ways, who is before it on them."""
 
     cost: int
     ports: frozenset[int]

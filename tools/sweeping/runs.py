@@ -29,8 +29,8 @@ def trace_of(job: Job) -> tuple[int, bytes, str]:
     try:
         done = subprocess.run([job.program, "lockstep"], input=job.case, capture_output=True, check=False)
     except OSError as error:
-        raise BadInput(f"can't run {job.program} ({os.uname().nodename}): {error.strerror}; PROGRAM names the program") \
-            from error
+        where = f"{job.program} on {os.uname().nodename}"
+        raise BadInput(f"can't run {where}: {error.strerror}; PROGRAM names the program") from error
     return done.returncode, done.stdout, done.stderr.decode(errors="replace").strip()
 
 

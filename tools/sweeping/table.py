@@ -1,7 +1,8 @@
 """The groups of runs that end alike, and the first row at which two of them part."""
 
 from collections import Counter
-from dataclasses import dataclass, field
+from collections.abc import Callable
+from dataclasses import dataclass, field, replace
 
 from library.network import Network
 from library.reading import Row, Run, read_run
@@ -73,8 +74,10 @@ def parting_lines(first: Group, other: Group, number: int, jobs: dict[tuple[int,
     lines = [f"group 1 ({names[0]}) and group {number} ({names[1]}), ties left out:"]
     if one.place != two.place:
         lines.append("  their delays differ, so their moments do")
-    lines += part_lines("the first row that differs", runs, first_other_row(runs))
-    return lines + part_lines("the first that isn't just in another order within its moment", runs, first_other_moment(runs))
+    lines += part_lines("the first row that differs", runs, first_other(runs, bare))
+    runs = in_one_order(runs)
+    what = "the first that isn't just in another order within its moment"
+    return lines + part_lines(what, runs, first_other(runs, unordered))
 
 
 def pair_of(first: Group, other: Group) -> tuple[Outcome, Outcome]:
@@ -100,23 +103,24 @@ def bare(row: Row) -> tuple:
     return (group, total, kind, origin, seq), *row.event[1:]
 
 
-def first_other_row(runs: list[Run]) -> int | None:
-    """The place of the first row that differs, from 0, or None."""
-    left, right = [[bare(row) for row in run.rows] for run in runs]
+def unordered(row: Row) -> tuple:
+    """A row without its tie and its sender's number, which hang on the order within a moment."""
+    group, total, kind, _, origin, _ = row.event[0]
+    return (group, total, kind, origin), *row.event[1:]
+
+
+def first_other(runs: list[Run], told: Callable[[Row], tuple]) -> int | None:
+    """The place of the first row that differs in what is told of it, from 0, or None."""
+    left, right = [[told(row) for row in run.rows] for run in runs]
     for place, (one, two) in enumerate(zip(left, right)):
         if one != two:
             return place
     return None if len(left) == len(right) else min(len(left), len(right))
 
 
-def first_other_moment(runs: list[Run]) -> int | None:
-    """The place of the first row, in the order of the rows without ties, that differs, or None.
-
-    At one moment both runs are put into one order, so that what only came in another order isn't a difference.
-    """
-    for run in runs:
-        run.rows.sort(key=bare)
-    return first_other_row(runs)
+def in_one_order(runs: list[Run]) -> list[Run]:
+    """The runs with the rows of each moment in one order, so that another order isn't a difference."""
+    return [replace(run, rows=sorted(run.rows, key=unordered)) for run in runs]
 
 
 def part_lines(what: str, runs: list[Run], place: int | None) -> list[str]:
