@@ -21,7 +21,8 @@ Interface4 = ipaddress.IPv4Interface
 Network4 = ipaddress.IPv4Network
 
 # Lines that say nothing of the network.
-SILENT = re.compile(r"(!|#|Building configuration|Current configuration|frr |hostname |log |service |line |exit|end$|password |enable password |debug |agentx|"
+SILENT = re.compile(r"(!|#|Building configuration|Current configuration|frr |hostname |"
+                    r"log |service |line |exit|end$|password |enable password |debug |agentx|"
                     r"ip forwarding|ipv6 forwarding|no ipv6 forwarding|version 2$|ospf router-id |router-id |"
                     r"description |no shutdown|bandwidth |link-detect|ip ospf network point-to-point$|"
                     r"ip ospf hello-interval 10$|ip ospf dead-interval 40$|auto-cost reference-bandwidth )")
