@@ -7,11 +7,12 @@ by the model, and compared with the final states of the trace where it has some 
 from collections.abc import Iterator
 from dataclasses import dataclass
 
+from model.case import MAX_BODY
 from model.events import CMD, MSG, TICK
 from model.guests.flood import MAX_BODIES, Flood
 from model.guests.ospf import wire as ospf_wire
 from model.guests.ospf.guest import FULL, Ospf
-from model.guests.ospf.lsa import MAX_AGE, ROUTER_LSA
+from model.guests.ospf.lsa import MAX_AGE, ROUTER_LSA, Head, newer
 from model.guests.ospf.receive import DISCARDED
 from model.guests.rip import wire as rip_wire
 from model.guests.rip.guest import Rip
@@ -96,8 +97,8 @@ def flood_reason(guest: Flood, row: Row) -> str | None:
     """Why a flooding router passes a message or command over."""
     if row.input not in (CMD, MSG):
         return None
-    if not row.body:
-        return "there are no bytes"
+    if not 1 <= len(row.body) <= MAX_BODY:
+        return "it floods 1 to %d bytes, and these are %d" % (MAX_BODY, len(row.body))
     if row.body in guest.bodies:
         return "it has these bytes already"
     return "it holds %d bodies" % MAX_BODIES if len(guest.bodies) >= MAX_BODIES else None
@@ -141,7 +142,16 @@ def ospf_reason(guest: Ospf, row: Row) -> str | None:
         return "the port has no full neighbour"
     if neighbour.id != packet.router:
         return "it is from %s, and the neighbour is %s" % (dotted(packet.router), dotted(neighbour.id))
+    if packet.kind == ospf_wire.ACK and not any(is_awaited(guest, row.port, head) for head in packet.body):
+        return "it acknowledges nothing that is on the port's list"
     return None
+
+
+def is_awaited(guest: Ospf, port: int, head: Head) -> bool:
+    """Whether a header acknowledges an LSA that is on a port's list (13.7)."""
+    key = head.key()
+    return (key in guest.ports[port].list and guest.database.get(key) is not None
+            and newer(head, guest.database.head_now(key, guest.now)) == 0)
 
 
 def rip_reason(body: bytes) -> str | None:

@@ -10,7 +10,7 @@ from library.reading import read_run
 from library.replaying import RouteWatch, taken_rows
 from library.routes import routes_of
 from model import journal, replay
-from model.events import MSG
+from model.events import CMD, MSG
 
 HALF = """defined 1
 period 10
@@ -133,7 +133,19 @@ class Rows(unittest.TestCase):
 
 
 class PassedOver(unittest.TestCase):
-    """What is said to be passed over changes nothing but by the end of the step, and what changes isn't."""
+    """What is said to be passed over changes nothing but by the end of the step."""
+
+    def test_flooding(self):
+        """Of what comes to a flooding router, just what it passes over leaves it as it was."""
+        for name, _, run in generated(26, most=700):
+            images = {}
+            for taken in taken_rows(run):
+                router = taken.row.router
+                if run.network.kinds[router] == "flood" and taken.row.input in (CMD, MSG):
+                    image = taken.node.guest.image()
+                    is_same = image == images.get(router, bytes(2))
+                    self.assertEqual(is_same, taken.passed_over is not None, (name, taken.row.number))
+                    images[router] = image
 
     def test_generated(self):
         """A row that is passed over leaves the router's image, but for what the end of an OSPF router's step does."""
