@@ -16,11 +16,13 @@ from library.tool import BadInput
 from .network import Network, Settings
 
 FRR_COST = 10
+LOOPBACKS = ("lo", "lo0")
 Interface4 = ipaddress.IPv4Interface
 Network4 = ipaddress.IPv4Network
 
 # Lines that say nothing of the network.
-SILENT = re.compile(r"(!|#|frr |hostname |log |service |line |exit|end$|password |enable password |debug |agentx|"
+SILENT = re.compile(r"(!|#|Building configuration|Current configuration|frr |hostname |"
+                    r"log |service |line |exit|end$|password |enable password |debug |agentx|"
                     r"ip forwarding|ipv6 forwarding|no ipv6 forwarding|version 2$|ospf router-id |router-id |"
                     r"description |no shutdown|bandwidth |link-detect|ip ospf network point-to-point$|"
                     r"ip ospf hello-interval 10$|ip ospf dead-interval 40$|auto-cost reference-bandwidth )")
@@ -192,12 +194,15 @@ def take_protocol_line(router: Router, section: str, fields: list[str], line: st
 
 
 def take_subnets(network: Network, routers: list[Router]) -> None:
-    """The subnets: links between two routers, and networks of one."""
+    """The subnets: links between two routers, and networks of one; a loopback is no link."""
     subnets: dict[Network4, list[tuple[int, Interface, Interface4]]] = {}
     for place, router in enumerate(routers):
         for interface in router.interfaces.values():
             for address in [] if interface.is_down else interface.addresses:
-                subnets.setdefault(address.network, []).append((place, interface, address))
+                if interface.name in LOOPBACKS:
+                    take_network(network, routers, address.network, (place, interface, address))
+                else:
+                    subnets.setdefault(address.network, []).append((place, interface, address))
     for subnet, ends in subnets.items():
         if len({place for place, _, _ in ends}) == 1:
             take_network(network, routers, subnet, ends[0])
@@ -206,13 +211,16 @@ def take_subnets(network: Network, routers: list[Router]) -> None:
 
 
 def take_network(network: Network, routers: list[Router], subnet: Network4, end: tuple) -> None:
-    """A network that one router alone has."""
+    """A network that one router alone has; an OSPF router tells a loopback as a host (RFC 2328, 12.4.1.1)."""
     place, interface, address = end
     node, router = network.nodes[str(place)], routers[place]
     if not router.tells(interface, address, node.kind):
         network.note(f"{node.name}: interface {interface.name}: {subnet} isn't told by {node.kind}; not taken")
         return
-    cost = interface.cost or (1 if interface.name == "lo" or node.kind == "rip" else FRR_COST)
+    cost = interface.cost or (1 if node.kind == "rip" else FRR_COST)
+    if interface.name in LOOPBACKS and node.kind == "ospf":
+        subnet, cost = Network4(address.ip), 1
+        network.note(f"{node.name}: loopback {subnet}: FRR tells it at cost 0, and a case has costs from 1")
     network.add_prefix(str(place), int(subnet.network_address), subnet.prefixlen, cost)
 
 
