@@ -12,7 +12,7 @@ def decimal(field):
 
     A decimal is `0` or digits without a leading zero.
     """
-    if not field or any(byte not in DIGITS for byte in field):
+    if not field.isdigit():
         return None
     if len(field) > 1 and field[:1] == b"0":
         return None
@@ -30,7 +30,7 @@ def unhex(field):
     """The bytes of a hexadecimal field; None where it is none."""
     if not field or len(field) % 2 != 0:
         return None
-    if any(byte not in HEX_DIGITS for byte in field):
+    if field.translate(None, HEX_DIGITS):
         return None
     return bytes.fromhex(field.decode("ascii"))
 

@@ -12,3 +12,8 @@ def opening_guest(case, number):
         return Flood()
     kind = Ospf if router.kind == b"ospf" else Rip
     return kind(number, case.costs(number), router.prefixes)
+
+
+def guest_of_image(kind, raw):
+    """The guest of a router of this kind with this image; raises `ValueError` where the bytes are none."""
+    return {b"flood": Flood, b"ospf": Ospf, b"rip": Rip}[kind].of_image(raw)

@@ -1,6 +1,7 @@
 """The flooding guest (docs/MODEL.md, "Nodes and guests")."""
 
 from ..events import CMD, MSG
+from ..octets import Reader
 
 MAX_BODIES = 65_535
 
@@ -30,3 +31,11 @@ class Flood:
         """The number of bodies, then each body behind its length."""
         packed = [bytes([len(body)]) + body for body in sorted(self.bodies)]
         return len(packed).to_bytes(2, "big") + b"".join(packed)
+
+    @classmethod
+    def of_image(cls, raw):
+        """The guest whose image these bytes are; raises `ValueError` where they are none."""
+        reader = Reader(raw)
+        bodies = [reader.take(reader.number(1)) for _ in range(reader.number(2))]
+        reader.end()
+        return cls(bodies)

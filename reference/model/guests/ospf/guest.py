@@ -5,10 +5,10 @@ from dataclasses import dataclass, field, replace
 from ...nets import mask_of
 from ..routing import MAX_NETWORKS, Routing
 from . import wire
-from .image import image
+from .image import image, read_into
 from .lsa import MAX_AGE, POINT_TO_POINT, ROUTER_LSA, STUB, encode_links, newer
 from .lsdb import Lsdb
-from .receive import receive
+from .receive import IS_ACKNOWLEDGED, receive
 
 RETRANSMIT, REFRESH, MIN_INTERVAL = 5, 1800, 5
 MOST_BYTES, UPDATE_HEAD = 1400, 28
@@ -34,11 +34,14 @@ class Port:
 
 
 class Ospf(Routing):
-    """An OSPF router; `originated` is the tick of the last origination, or None."""
+    """An OSPF router; `originated` is the tick of the last origination, or None.
+
+    `judged` has the LSAs of the Update that came last, each with its verdict and why it was discarded.
+    """
 
     def __init__(self, number, costs, prefixes):
         super().__init__(number, costs)
-        self.id, self.originated = number + 1, None
+        self.id, self.originated, self.judged = number + 1, None, []
         self.networks = {(address, length): cost for address, length, cost in prefixes}
         self.ports = [Port() for _ in costs]
         self.database = Lsdb()
@@ -55,6 +58,18 @@ class Ospf(Routing):
     def image(self):
         """Its state in bytes."""
         return image(self)
+
+    @classmethod
+    def of_image(cls, raw):
+        """The router whose image these bytes are; raises `ValueError` where they are none."""
+        router = cls(0, [], [])
+        read_into(router, raw)
+        return router
+
+    @staticmethod
+    def new_port():
+        """A port without a neighbour."""
+        return Port()
 
     # -- sending
 
@@ -167,9 +182,7 @@ class Ospf(Routing):
 
     def hello(self, port, router, hello):
         """A Hello comes (10.5)."""
-        if router in (0, self.id) or not hello.options & wire.EXTERNAL_ROUTING:
-            return
-        if (hello.interval, hello.dead) != (wire.HELLO_INTERVAL, wire.DEAD_INTERVAL):
+        if self.hello_fault(router, hello) is not None:
             return
         neighbour = self.ports[port]
         if neighbour.state != DOWN and neighbour.id != router:
@@ -182,6 +195,16 @@ class Ospf(Routing):
             neighbour.list = {key: self.now for key in self.database.map}
             self.send_all(port, self.database.map)
 
+    def hello_fault(self, router, hello):
+        """Why a Hello doesn't count, in words, or None."""
+        if router in (0, self.id):
+            return "it has the router's own id" if router else "its router id is 0"
+        if not hello.options & wire.EXTERNAL_ROUTING:
+            return "the E bit of its options isn't set"
+        if hello.interval != wire.HELLO_INTERVAL:
+            return "its interval isn't %d" % wire.HELLO_INTERVAL
+        return None if hello.dead == wire.DEAD_INTERVAL else "its dead interval isn't %d" % wire.DEAD_INTERVAL
+
     def acknowledged(self, port, heads):
         """An Acknowledgement comes (13.7)."""
         for head in heads:
@@ -192,7 +215,10 @@ class Ospf(Routing):
 
     def update(self, port, lsas):
         """An Update comes (13)."""
-        heads = [lsa.head for lsa in lsas if receive(self, port, lsa)]
+        self.judged = []
+        for lsa in lsas:
+            self.judged.append((lsa, *receive(self, port, lsa)))
+        heads = [lsa.head for lsa, verdict, _ in self.judged if IS_ACKNOWLEDGED[verdict]]
         if heads:
             self.out.append((port, wire.encode_ack(self.id, heads)))
 
@@ -215,7 +241,7 @@ class Ospf(Routing):
             self.flood(key)
         for key in self.database.at_max_age():
             if not self.is_listed(key):
-                del self.database.map[key]
+                self.database.drop(key)
 
     def is_wanted(self, body):
         """Whether the own LSA isn't the one that it ought to be."""

@@ -1,6 +1,7 @@
 """LSAs: header, LS checksum (12.1.7), the newer instance (13.1), and the links of a router-LSA (A.4.2)."""
 
 import struct
+from itertools import accumulate
 from typing import NamedTuple
 
 from ...octets import number
@@ -56,7 +57,7 @@ class Lsa(NamedTuple):
 def fletcher_sums(lsa):
     """Both sums over the bytes from the options on, modulo 255."""
     covered = lsa.encode()[2:]
-    weighted = sum((len(covered) - place) * byte for place, byte in enumerate(covered))
+    weighted = sum(accumulate(covered))     # the first byte is in all of the sums so far, the last one in one of them
     return sum(covered) % 255, weighted % 255
 
 

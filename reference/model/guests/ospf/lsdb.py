@@ -1,6 +1,6 @@
 """The link state database: a map from an LSA's name to what is kept of it (12 to 14)."""
 
-from dataclasses import dataclass, replace
+from dataclasses import dataclass
 
 from .lsa import HEAD_SIZE, MAX_AGE, ROUTER_LSA, Head, Lsa, fletcher_set
 
@@ -19,17 +19,21 @@ class Kept:
     sent: int | None = None
     foreign: bool = False
 
+    def fork(self):
+        """An equal one that changes by itself."""
+        return Kept(self.lsa, self.installed, self.flooded, self.sent, self.foreign)
+
 
 class Lsdb:
-    """The database of a router."""
+    """The database of a router; `old` are the names of the LSAs that are kept at MaxAge."""
 
     def __init__(self):
-        self.map = {}
+        self.map, self.old = {}, set()
 
     def fork(self):
         """An equal database that changes by itself."""
         other = Lsdb()
-        other.map = {key: replace(kept) for key, kept in self.map.items()}
+        other.map, other.old = {key: kept.fork() for key, kept in self.map.items()}, set(self.old)
         return other
 
     def get(self, key):
@@ -38,7 +42,20 @@ class Lsdb:
 
     def install(self, lsa, now, flooded):
         """An instance comes in the place of the one before."""
-        self.map[lsa.head.key()] = Kept(lsa, now, flooded)
+        self.put(lsa.head.key(), Kept(lsa, now, flooded))
+
+    def put(self, key, kept):
+        """Keeps an LSA at a name."""
+        self.map[key] = kept
+        if kept.lsa.head.age == MAX_AGE:
+            self.old.add(key)
+        else:
+            self.old.discard(key)
+
+    def drop(self, key):
+        """Removes an LSA."""
+        del self.map[key]
+        self.old.discard(key)
 
     def age(self, key, now):
         """The age that an LSA has now."""
@@ -53,18 +70,19 @@ class Lsdb:
         """An LSA is set to MaxAge."""
         kept = self.map[key]
         kept.lsa, kept.installed = kept.lsa.at_age(MAX_AGE), now
+        self.old.add(key)
 
     def age_out(self, now):
         """Sets the LSAs that come to MaxAge now to it; gives their names in order."""
-        keys = [key for key in sorted(self.map)
-                if self.map[key].lsa.head.age < MAX_AGE and self.age(key, now) == MAX_AGE]
+        keys = sorted([key for key, kept in self.map.items()
+                       if kept.lsa.head.age < MAX_AGE <= kept.lsa.head.age + now - kept.installed])
         for key in keys:
             self.flush(key, now)
         return keys
 
     def at_max_age(self):
         """The names of the LSAs that are kept at MaxAge, in order."""
-        return sorted(key for key, kept in self.map.items() if kept.lsa.head.age == MAX_AGE)
+        return sorted(self.old)
 
     def originate(self, router, body, now):
         """Installs the router's own LSA anew; False where it stands at the last sequence number."""

@@ -1,6 +1,7 @@
 """OSPF packets (appendix A)."""
 
 from dataclasses import dataclass
+from functools import lru_cache
 
 from ...octets import number, packed
 from .lsa import HEAD_SIZE, Lsa, decode_head
@@ -14,12 +15,16 @@ EXTERNAL_ROUTING = 2
 
 @dataclass(frozen=True)
 class Hello:
-    """The fields of a Hello that are looked at."""
+    """A Hello. A router looks at interval, options, dead interval and neighbours alone."""
 
     interval: int
     options: int
     dead: int
     neighbours: tuple
+    mask: int = 0
+    priority: int = 0
+    designated: int = 0
+    backup: int = 0
 
 
 @dataclass(frozen=True)
@@ -33,13 +38,12 @@ class Packet:
 
 
 def ones_sum(data):
-    """The one's complement sum of the words of 16 bits (RFC 1071)."""
-    if len(data) % 2:
-        data += b"\0"
-    total = sum(data[0::2]) * 256 + sum(data[1::2])
-    while total > 0xFFFF:
-        total = (total >> 16) + (total & 0xFFFF)
-    return total
+    """The one's complement sum of the words of 16 bits (RFC 1071).
+
+    It is their plain sum modulo 65,535, as 65,536 is 1, and 0 only where all words are 0.
+    """
+    total = int.from_bytes(data + b"\0" * (len(data) % 2), "big")
+    return (total - 1) % 0xFFFF + 1 if total else 0
 
 
 def checksum(packet):
@@ -70,15 +74,44 @@ def encode_ack(router, heads):
     return encode_packet(ACK, router, b"".join(head.encode() for head in heads))
 
 
+BODIES = {HELLO: "a Hello", UPDATE: "an Update", ACK: "an Acknowledgement"}
+
+
+@lru_cache(maxsize=1024)
 def decode(raw):
     """The packet, or None where the bytes aren't one of the grammar."""
-    if len(raw) < PACKET_HEAD or raw[0] != VERSION or number(raw, 2, 2) != len(raw):
+    if head_fault(raw) is not None:
         return None
-    if raw[14:16] != b"\0\0" or ones_sum(raw[:16] + raw[PACKET_HEAD:]) != 0xFFFF:
-        return None
-    decode_body = {HELLO: decode_hello, UPDATE: decode_update, ACK: decode_ack}.get(raw[1])
-    body = None if decode_body is None else decode_body(raw[PACKET_HEAD:])
+    body = decode_body(raw)
     return None if body is None else Packet(raw[1], number(raw, 4, 4), number(raw, 8, 4), body)
+
+
+def decode_body(raw):
+    """What the packet has behind a good header, or None."""
+    return {HELLO: decode_hello, UPDATE: decode_update, ACK: decode_ack}[raw[1]](raw[PACKET_HEAD:])
+
+
+def head_fault(raw):
+    """Why the header, the length or the sum are not those of a packet of the grammar, in words, or None."""
+    if len(raw) < PACKET_HEAD:
+        return "%d bytes, and a header alone has %d" % (len(raw), PACKET_HEAD)
+    if raw[0] != VERSION:
+        return "version %d" % raw[0]
+    if number(raw, 2, 2) != len(raw):
+        return "its length says %d, and there are %d bytes" % (number(raw, 2, 2), len(raw))
+    if raw[14:16] != b"\0\0":
+        return "authentication type %d" % number(raw, 14, 2)
+    if ones_sum(raw[:16] + raw[PACKET_HEAD:]) != 0xFFFF:
+        return "wrong checksum"
+    return None if raw[1] in BODIES else "type %d" % raw[1]
+
+
+def fault(raw):
+    """Why the bytes aren't a packet of the grammar, in words; None exactly where `decode` gives a packet."""
+    found = head_fault(raw)
+    if found is None and decode_body(raw) is None:
+        return "not the body of " + BODIES[raw[1]]
+    return found
 
 
 def decode_hello(raw):
@@ -86,7 +119,8 @@ def decode_hello(raw):
     if len(raw) < 20 or len(raw) % 4:
         return None
     neighbours = tuple(number(raw, place, 4) for place in range(20, len(raw), 4))
-    return Hello(number(raw, 4, 2), raw[6], number(raw, 8, 4), neighbours)
+    return Hello(number(raw, 4, 2), raw[6], number(raw, 8, 4), neighbours,
+                 number(raw, 0, 4), raw[7], number(raw, 12, 4), number(raw, 16, 4))
 
 
 def decode_update(raw):

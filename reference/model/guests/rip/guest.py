@@ -3,7 +3,7 @@
 from dataclasses import dataclass, replace
 
 from ...nets import mask_of
-from ...octets import packed
+from ...octets import Reader, packed
 from ..routing import MAX_NETWORKS, Routing
 from . import wire
 from .wire import INFINITY, Entry
@@ -173,3 +173,18 @@ class Rip(Routing):
             out += packed((address, 4), (length, 1), (held.tag, 2), (held.metric, 1),
                           (via, 1), (held.time, 4), (held.changed, 1))
         return out
+
+    @classmethod
+    def of_image(cls, raw):
+        """The router whose image these bytes are; raises `ValueError` where they are none."""
+        reader = Reader(raw)
+        number, now = reader.number(2), reader.number(4)
+        router = cls(number, list(reader.take(reader.number(1))), [])
+        router.now = now
+        for _ in range(reader.number(2)):
+            network = reader.number(4), reader.number(1)
+            tag, metric, via = reader.number(2), reader.number(1), reader.number(1)
+            time, changed = reader.number(4), bool(reader.number(1))
+            router.table[network] = Held(tag, metric, None if via == OWN else via, time, changed)
+        reader.end()
+        return router

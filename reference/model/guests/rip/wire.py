@@ -44,12 +44,21 @@ class Entry:
         return is_default or (first not in (0, 127) and first < 224)
 
 
+def fault(body):
+    """Why the bytes are no message, in words, or None."""
+    count, left = divmod(len(body) - 4, ENTRY.size)
+    if left != 0:
+        return "%d bytes, which is not 4 and 20 for each entry" % len(body)
+    if not 1 <= count <= MOST_ENTRIES:
+        return "%d entries" % max(0, count)
+    if body[0] not in (REQUEST, RESPONSE):
+        return "command %d" % body[0]
+    return None if body[1] == VERSION else "version %d" % body[1]
+
+
 def decode(body):
     """(command, entries), or None where the bytes are no message."""
-    count, left = divmod(len(body) - 4, ENTRY.size)
-    if left != 0 or not 1 <= count <= MOST_ENTRIES:
-        return None
-    if body[0] not in (REQUEST, RESPONSE) or body[1] != VERSION:
+    if fault(body) is not None:
         return None
     return body[0], [Entry(*fields) for fields in ENTRY.iter_unpack(body[4:])]
 
