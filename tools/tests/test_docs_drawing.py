@@ -6,7 +6,7 @@ import tempfile
 import unittest
 
 import test_docs
-from helping import TOP, built_program, needs_defined, tool
+from helping import TOP, built_program, defined, example, needs_defined, tool
 from test_import import GRAPHS
 
 
@@ -52,6 +52,13 @@ class Shown(unittest.TestCase):
             self.assertTrue(blocks)
             for block in blocks:
                 self.assertEqual(test_docs.played(block, folder), block)
+
+    def test_rollbacks(self):
+        """The piece with rollbacks is what chart writes of that schedule."""
+        shaken = defined("shake", "3", "--steps", "1000000", text=example("ospf_pair", ".case")).stdout
+        done = tool("chart", "--svg", "1-36", "--title", "a schedule with rollbacks", text=shaken)
+        with open(os.path.join(TOP, "docs", "pictures", "rollbacks.svg"), "rb") as file:
+            self.assertEqual(done.stdout, file.read())
 
     def test_sweep(self):
         """sweep."""
