@@ -6,23 +6,23 @@ use Rattle.std.proofs.lemmas.Nat.Bits.{bit_at_and, bit_at-lt}
 use borrow.Author.Tests.{eqb-true}
 use Rattle.dn_guest.specs.Ports.{is_up, with_down}
 use Rattle.ospf_lsdb.specs.declared.key.LsaKey.{LsaKey}
-use Rattle.ospf_flood.specs.Lists.{OnPort, OnPorts, tick_of, with_tick, off, off_all, restored}
+use Rattle.ospf_flood.specs.Retransmission.{OnPort, OnPorts, last_sent, with_lsa, without_lsa, without_lsa_anywhere, restored}
 use Rattle.ospf_flood.specs.Flooding.{put_from, put_on}
-use Rattle.ospf_flood.proofs.ListLaws.{put_twice}
+use Rattle.ospf_flood.proofs.RetransmissionLaws.{put_twice}
 
 -- the LSA stands on the first list
 pub one_put : (p ports tick : ℕ) (k key : LsaKey) (list first : OnPort) (rest more all : OnPorts) → is_up ports p ≡ true → k ≡ key
-    → with_tick (off k list) k tick ≡ with_tick list k tick → first ≡ with_tick list k tick → more ≡ put_from (p + 1) ports key tick (off_all key rest) → all ≡ list ∷ rest
-    → first ∷ more ≡ put_from p ports key tick (off_all key all)
+    → with_lsa (without_lsa k list) k tick ≡ with_lsa list k tick → first ≡ with_lsa list k tick → more ≡ put_from (p + 1) ports key tick (without_lsa_anywhere key rest) → all ≡ list ∷ rest
+    → first ∷ more ≡ put_from p ports key tick (without_lsa_anywhere key all)
 one_put p ports tick k key list first rest more all up same again put puts whole =
-    let here : first ≡ with_tick (off key list) key tick = put ∙ sym again ∙ ap (λ (x : LsaKey). with_tick (off x list) x tick) same in
-    rw whole (rw up (ap (λ (l : OnPort). l ∷ more) here ∙ ap (λ (ls : OnPorts). with_tick (off key list) key tick ∷ ls) puts))
+    let here : first ≡ with_lsa (without_lsa key list) key tick = put ∙ sym again ∙ ap (λ (x : LsaKey). with_lsa (without_lsa x list) x tick) same in
+    rw whole (rw up (ap (λ (l : OnPort). l ∷ more) here ∙ ap (λ (ls : OnPorts). with_lsa (without_lsa key list) key tick ∷ ls) puts))
 
 -- what was put on the first list is taken back
-pub one_back : (tick : ℕ) (before : Option ℕ) (k : LsaKey) (list put first : OnPort) (rest more all : OnPorts) → restored (with_tick list k tick) k (tick_of list k) ≡ list
-    → put ≡ with_tick list k tick → before ≡ tick_of list k → first ≡ restored put k before → more ≡ rest → all ≡ list ∷ rest → first ∷ more ≡ all
+pub one_back : (tick : ℕ) (before : Option ℕ) (k : LsaKey) (list put first : OnPort) (rest more all : OnPorts) → restored (with_lsa list k tick) k (last_sent list k) ≡ list
+    → put ≡ with_lsa list k tick → before ≡ last_sent list k → first ≡ restored put k before → more ≡ rest → all ≡ list ∷ rest → first ∷ more ≡ all
 one_back tick before k list put first rest more all back on was set same whole =
-    let here : first ≡ list = set ∙ ap (λ (l : OnPort). restored l k before) on ∙ ap (λ (o : Option ℕ). restored (with_tick list k tick) k o) was ∙ back in
+    let here : first ≡ list = set ∙ ap (λ (l : OnPort). restored l k before) on ∙ ap (λ (o : Option ℕ). restored (with_lsa list k tick) k o) was ∙ back in
     ap (λ (l : OnPort). l ∷ more) here ∙ ap (λ (ls : OnPorts). list ∷ ls) same ∙ sym whole
 
 -- ---- on all ports but one, and then on all, is on all
@@ -47,7 +47,7 @@ pub still_up : (ports port p : ℕ) → is_up (with_down ports port) p ≡ true 
 still_up ports port p h = still_up_by (nat_lt port 16) ports (bit_not w16 (2 ^ port)) p h
 
 over_by : (b up : Bool) (key : LsaKey) (tick : ℕ) (l : OnPort) → (b ≡ true → up ≡ true)
-    → cond up (with_tick (cond b (with_tick l key tick) l) key tick) (cond b (with_tick l key tick) l) ≡ cond up (with_tick l key tick) l
+    → cond up (with_lsa (cond b (with_lsa l key tick) l) key tick) (cond b (with_lsa l key tick) l) ≡ cond up (with_lsa l key tick) l
 over_by true up key tick l h = rw (h refl) (put_twice key tick tick l)
 over_by false up key tick l h = refl
 
@@ -56,7 +56,7 @@ put_over_from p full from tick key [] = refl
 put_over_from p full from tick key (l ∷ ls) =
     let here = over_by (is_up (with_down full from) p) (is_up full p) key tick l (still_up full from p) in
     ap (λ (x : OnPort). x ∷ put_from (p + 1) full key tick (put_from (p + 1) (with_down full from) key tick ls)) here
-    ∙ ap (λ (rest : OnPorts). cond (is_up full p) (with_tick l key tick) l ∷ rest) (put_over_from (p + 1) full from tick key ls)
+    ∙ ap (λ (rest : OnPorts). cond (is_up full p) (with_lsa l key tick) l ∷ rest) (put_over_from (p + 1) full from tick key ls)
 
 pub put_over : (full from tick : ℕ) (key : LsaKey) (ls : OnPorts) → put_on full key tick (put_on (with_down full from) key tick ls) ≡ put_on full key tick ls
 put_over full from tick key ls = put_over_from 0 full from tick key ls

@@ -1,3 +1,3 @@
-pub mod ListLaws
+pub mod RetransmissionLaws
 pub mod FloodLaws
-pub mod TableLaws
+pub mod VerdictLaws

@@ -1,4 +1,5 @@
-pub mod Lists
+pub mod PortMasks
+pub mod Retransmission
 pub mod Flooding
-pub mod Table
+pub mod Verdicts
 pub mod Receiving

@@ -3,25 +3,28 @@
 //!
 //! | File | What it has |
 //! |---|---|
-//! | `lists.rt` | `Lists`, the retransmission lists of all ports |
-//! | `port_list.rt` | the list of one port |
-//! | `table.rt` | `Verdict`, and the table by which an LSA is judged |
+//! | `retransmission.rt` | `Lists`, the retransmission lists of all ports |
+//! | `retransmission_list.rt` | the list of one port |
+//! | `port_masks.rt` | masks of ports |
+//! | `verdict.rt` | `Verdict`, and the table by which an LSA is judged |
 //! | `receiving.rt` | `receive`: the verdict, and what it does to the database and the lists |
 //! | `flooding.rt` | `flood`: an LSA is put on the lists of several ports, or on none where memory is short |
 //!
-//! The one contract upwards: `receive` answers the verdict of the table in `specs/Table.antt` and leaves
+//! The one contract upwards: `receive` answers the verdict of the table in `specs/Verdicts.antt` and leaves
 //! the database and the lists that `specs/Receiving.antt` says, or, where memory is short, those that were
 //! there. What is to be sent follows from the answer, and the caller sends it.
 #![tactic(auto)]
 
 mod flooding;
-mod lists;
-mod port_list;
+mod port_masks;
 mod receiving;
-mod table;
+mod retransmission;
+mod retransmission_list;
+mod verdict;
 
 pub use flooding::flood;
-pub use lists::Lists;
+pub use port_masks::{only_port, with_port, without_port};
 pub use receiving::{Step, receive};
+pub use retransmission::Lists;
 pub use std::alloc::AllocError as NoMemory;
-pub use table::Verdict;
+pub use verdict::Verdict;

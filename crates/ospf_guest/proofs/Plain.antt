@@ -7,7 +7,7 @@ use Rattle.ospf_wire.specs.declared.lsa.LsaHeader.{LsaHeader}
 use Rattle.ospf_lsdb.specs.declared.key.LsaKey.{LsaKey}
 use Rattle.ospf_lsdb.specs.declared.kept.Kept.{Kept}
 use Rattle.ospf_lsdb.specs.Keys.{key_of}
-use Rattle.ospf_flood.specs.Lists.{OnPort}
+use Rattle.ospf_flood.specs.Retransmission.{OnPort}
 use Rattle.ospf_spf.specs.Graph.{graph_of}
 use Rattle.ospf_spf.specs.Table.{table_of}
 use Rattle.ospf_router.specs.Sound.{IsSoundEntry, IsSoundState}

@@ -6,7 +6,7 @@ use Rattle.ospf_wire.specs.declared.lsa.LsaHeader.{LsaHeader}
 use Rattle.ospf_lsdb.specs.declared.key.LsaKey.{LsaKey}
 use Rattle.ospf_lsdb.specs.declared.kept.Kept.{Kept}
 use Rattle.ospf_lsdb.specs.Database.{Database}
-use Rattle.ospf_flood.specs.Lists.{OnPort, OnPorts}
+use Rattle.ospf_flood.specs.Retransmission.{OnPort, OnPorts}
 use Rattle.ospf_router.specs.declared.neighbour.Neighbour.{Neighbour}
 use Rattle.ospf_router.specs.declared.neighbour.Neighbour.TheVariants.{Down, Init, Full}
 use Rattle.ospf_router.specs.declared.interfaces.Port.{Port}

@@ -2,7 +2,7 @@
 use Rattle.std.specs.Prelude.{◌≡◌, ℕ, ◌+◌, ◌*◌, ◌≤◌, ◌==◌, nat_le, Bool, true, false, if◌then◌else◌, List, [], ◌∷◌, ◌++◌, length, flat_map, refl}
 use Rattle.std.proofs.Common.{arith, append_assoc, sym, ◌∙◌}
 use Rattle.std.proofs.lemmas.Bool.{and_parts, leb-true, eqb-true}
-use Rattle.ospf_flood.specs.Lists.{OnPort, OnPorts}
+use Rattle.ospf_flood.specs.Retransmission.{OnPort, OnPorts}
 use Rattle.ospf_router.specs.declared.neighbour.Neighbour.{Neighbour}
 use Rattle.ospf_router.specs.declared.neighbour.Neighbour.TheVariants.{Down, Init, Full}
 use Rattle.ospf_router.specs.declared.interfaces.Port.{Port}

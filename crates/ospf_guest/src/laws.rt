@@ -16,5 +16,6 @@ pub fn sound_states_are_told_plainly()
     ensures lists { (s : OspfState) → IsSoundState s → AllByRecursion (λ l. is_long l ≡ false) s.interfaces.lists }
     ensures lsas { (s : OspfState) → IsSoundState s → AllByRecursion (λ e. is_plain e.0 e.1 ≡ true) s.db }
     ensures count { (s : OspfState) → IsSoundState s → min 65535 (length s.db) ≡ length s.db }
-    ensures routes { (s : OspfState) → IsSoundState s → route_lines s.number s.tick s.db ≡ flat_map route_line (table_of (graph_of s.tick s.db) (s.number + 1)) }
+    ensures routes { (s : OspfState) → IsSoundState s
+        → route_lines s.number s.tick s.db ≡ flat_map route_line (table_of (graph_of s.tick s.db) (s.number + 1)) }
 {}

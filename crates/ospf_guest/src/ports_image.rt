@@ -3,7 +3,7 @@
 ghost use Rattle.std.specs.Prelude.{◌≡◌, ◌++◌, ◌*◌, ◌+◌, OnOk, ◌≤◌, ◌<◌, length};
 ghost use Rattle.std.specs.List.{flat_map};
 ghost use Rattle.dn_guest.specs.KeepsFront.{KeepsFront};
-ghost use Rattle.ospf_flood.specs.Lists.{list_of};
+ghost use Rattle.ospf_flood.specs.Retransmission.{list_of};
 ghost use Rattle.ospf_router.specs.Interfaces.{port_at};
 ghost use Rattle.ospf_guest.specs.Image.{bit, count_image, four, heard_image, is_long, listed_image, port_front, port_image, ports_image, state_byte};
 

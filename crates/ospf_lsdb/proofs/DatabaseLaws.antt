@@ -11,7 +11,7 @@ use Rattle.std.proofs.lemmas.Map.Lookups.{exact_unsigned}
 use Rattle.ospf_lsdb.specs.declared.key.LsaKey.{LsaKey}
 use Rattle.ospf_lsdb.specs.declared.kept.Kept.{Kept}
 use Rattle.ospf_lsdb.specs.Keys.{key_cmp, key_of}
-use Rattle.ospf_lsdb.specs.Kept.{at_end, reaches_end}
+use Rattle.ospf_lsdb.specs.Kept.{with_max_age, reaches_max_age}
 use Rattle.ospf_lsdb.specs.Database.{Database, kept_at, with_kept, changed, without, AreNamed, aged}
 
 -- ---- the order tells all keys apart
@@ -76,13 +76,13 @@ named-without [] key named = tt
 named-without (e ∷ db) key named =
     without_by (is_at (key_cmp key) e.0) e db (without db key) named.0 named.1 (named-without db key named.1)
 
-aged_name : (b : Bool) (now : ℕ) (k : Kept) → key_of (cond b (at_end now k) k).lsa.head ≡ key_of k.lsa.head
+aged_name : (b : Bool) (now : ℕ) (k : Kept) → key_of (cond b (with_max_age now k) k).lsa.head ≡ key_of k.lsa.head
 aged_name true now k = refl
 aged_name false now k = refl
 
 pub named-aged : (now : ℕ) (db : Database) → AreNamed db → AreNamed (aged now db)
 named-aged now [] named = tt
-named-aged now (e ∷ db) named = (named.0 ∙ sym (aged_name (reaches_end now e.1) now e.1), named-aged now db named.1)
+named-aged now (e ∷ db) named = (named.0 ∙ sym (aged_name (reaches_max_age now e.1) now e.1), named-aged now db named.1)
 
 -- ---- what a look-up finds
 

@@ -3,6 +3,7 @@ use Rattle.std.specs.Prelude.{ℕ}
 use Rattle.std.specs.declared.cmp.Ordering.{Ordering}
 use Rattle.std.specs.Ordering.{nat_cmp, ordering_then}
 use Rattle.ospf_wire.specs.declared.lsa.LsaHeader.{LsaHeader}
+use Rattle.ospf_wire.specs.Constants.{RouterLsaType}
 use Rattle.ospf_lsdb.specs.declared.key.LsaKey.{LsaKey}
 
 -- by type, id and advertising router
@@ -15,4 +16,4 @@ key_of h = record { kind = h.kind; id = h.id; router = h.router }
 
 -- the name of a router's own LSA: a router-LSA whose id is the router's
 abbrev pub own_key : ℕ → LsaKey
-own_key router = record { kind = 1; id = router; router = router }
+own_key router = record { kind = RouterLsaType; id = router; router = router }

@@ -1,9 +1,9 @@
 //! An LSA in the database.
 
 ghost use Rattle.std.specs.Prelude.{◌≡◌};
-ghost use Rattle.ospf_lsdb.specs.Kept.{age_of, at_end, fresh, reaches_end};
+ghost use Rattle.ospf_lsdb.specs.Kept.{age_of, fresh, header_now, reaches_max_age, with_max_age};
 
-use ospf_wire::{Lsa, MAX_AGE};
+use ospf_wire::{Lsa, LsaHeader, MAX_AGE};
 use std::alloc::AllocError;
 
 /// An LSA as it was installed, and what the database knows of it. Moments are ticks, one a second.
@@ -49,7 +49,8 @@ impl Kept {
         }
     }
 
-    /// The age at this tick: the age at installation and the ticks since then, at most 3,600.
+    /// The age at this tick: the age at installation and the ticks since then, at most MaxAge (RFC 2328
+    /// section 14).
     pub fn age(&self, now: u32) -> u16
         ensures { result ≡ age_of now self.now }
     {
@@ -57,16 +58,26 @@ impl Kept {
         age.min(u64::from(MAX_AGE)) as u16
     }
 
-    /// Whether it was below the greatest age and has it at this tick.
-    pub fn reaches_end(&self, now: u32) -> bool
-        ensures { result ≡ reaches_end now self.now }
+    /// The header with the age at this tick.
+    pub fn header_now(&self, now: u32) -> LsaHeader
+        ensures { result ≡ header_now now self.now }
+    {
+        LsaHeader {
+            age: self.age(now),
+            ..self.lsa.head
+        }
+    }
+
+    /// Whether it was below MaxAge and reaches it at this tick (RFC 2328 section 14).
+    pub fn reaches_max_age(&self, now: u32) -> bool
+        ensures { result ≡ reaches_max_age now self.now }
     {
         self.lsa.head.age < MAX_AGE && self.age(now) == MAX_AGE
     }
 
-    /// Sets the age to the greatest from this tick on.
-    pub fn end(&mut self, now: u32)
-        ensures { self.new ≡ at_end now self.old }
+    /// Sets the age to MaxAge from this tick on (RFC 2328 section 14.1).
+    pub fn set_max_age(&mut self, now: u32)
+        ensures { self.new ≡ with_max_age now self.old }
     {
         self.lsa.head.age = MAX_AGE;
         self.installed = now;

@@ -3,7 +3,7 @@
 ghost use Rattle.std.specs.Prelude.{◌≡◌};
 ghost use Rattle.ospf_lsdb.specs.Keys.{key_of, own_key};
 
-use ospf_wire::LsaHeader;
+use ospf_wire::{LsaHeader, ROUTER_LSA_TYPE};
 
 /// What names an LSA. Keys are compared by type, id and advertising router, in this order.
 #[derive(Clone, Copy, Debug, PartialEq, Eq, PartialOrd, Ord)]
@@ -27,12 +27,13 @@ pub fn key_of(head: &LsaHeader) -> LsaKey
     }
 }
 
-/// The name of a router's own LSA.
+/// The name of a router's own LSA: a router-LSA whose link state id is the router's id (RFC 2328 section
+/// 12.4.1).
 pub fn own_key(router: u32) -> LsaKey
     ensures { result ≡ own_key router }
 {
     LsaKey {
-        kind: 1,
+        kind: ROUTER_LSA_TYPE,
         id: router,
         router,
     }

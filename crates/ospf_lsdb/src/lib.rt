@@ -6,7 +6,7 @@
 //! | `key.rt` | `LsaKey`, the name of an LSA, and its order |
 //! | `kept.rt` | `Kept`, an LSA with when and how it came, and its age |
 //! | `lsdb.rt` | `Lsdb`, the database: looking up, installing, noting, flushing, dropping |
-//! | `aging.rt` | which LSAs reach the greatest age |
+//! | `aging.rt` | which LSAs reach MaxAge, and which have it |
 //! | `origination.rt` | the router's own LSA |
 //!
 //! The one contract upwards: in a clause an `Lsdb` is the list of its entries in ascending order of the
@@ -20,6 +20,6 @@ mod lsdb;
 mod origination;
 
 pub use kept::Kept;
-pub use key::{LsaKey, key_of};
+pub use key::{LsaKey, key_of, own_key};
 pub use lsdb::Lsdb;
 pub use std::alloc::AllocError as NoMemory;

@@ -4,10 +4,10 @@ ghost use Rattle.std.specs.Prelude.{◌≡◌, ◌↔◌, [], IsTrue, IfOk, IfSo
 ghost use Rattle.std.specs.Map.{keys_of};
 ghost use Rattle.std.specs.List.Sorted.{IsStrictlySortedBy};
 ghost use Rattle.ospf_lsdb.specs.Keys.{key_cmp, key_of};
-ghost use Rattle.ospf_lsdb.specs.Kept.{age_of, at_end, fresh, sent_at};
-ghost use Rattle.ospf_lsdb.specs.Database.{AreNamed, aged, changed, ending, gone, kept_at, with_kept, without};
+ghost use Rattle.ospf_lsdb.specs.Kept.{age_of, with_max_age, fresh, sent_at};
+ghost use Rattle.ospf_lsdb.specs.Database.{AreNamed, aged, changed, reaching_max_age, max_age_lsas, kept_at, with_kept, without};
 
-use crate::aging::{age_all, ending, gone};
+use crate::aging::{age_lsas, max_age_lsas, reaching_max_age};
 use crate::key::key_of;
 use crate::{Kept, LsaKey};
 use ospf_wire::Lsa;
@@ -57,7 +57,7 @@ impl Lsdb {
         self.kept.get(key)
     }
 
-    /// Installs an instance in the place of the one that was there, not sent yet.
+    /// Installs an instance in the place of the one that was there, not sent yet (RFC 2328 section 13.2).
     pub fn install(
         &mut self,
         lsa: Lsa,
@@ -91,22 +91,24 @@ impl Lsdb {
         }
     }
 
-    /// Sets the LSAs that reach the greatest age to it, and lists them in ascending order.
+    /// Sets the LSAs that reach MaxAge at this tick to it, and lists them in ascending order (RFC 2328
+    /// section 14).
     pub fn tick(&mut self, now: u32) -> Result<Vec<LsaKey>, AllocError>
-        ensures keys { IfOk result (λ keys. keys.items ≡ ending now self.old) }
+        ensures keys { IfOk result (λ keys. keys.items ≡ reaching_max_age now self.old) }
         ensures database { OnOk result (self.new ≡ aged now self.old) }
         ensures err { OnErr result (self.new ≡ self.old) }
     {
-        let keys = ending(self.alloc, &self.kept, now)?;
-        age_all(&mut self.kept, now);
+        let keys = reaching_max_age(self.alloc, &self.kept, now)?;
+        age_lsas(&mut self.kept, now);
         Ok(keys)
     }
 
-    /// Sets the LSA to the greatest age from this tick on. Nothing happens where it isn't there.
+    /// Sets the LSA to MaxAge from this tick on, as premature aging does (RFC 2328 section 14.1). Nothing
+    /// happens if it isn't there.
     pub fn flush(&mut self, key: &LsaKey, now: u32)
-        ensures { self.new ≡ changed key.now (at_end now) self.old }
+        ensures { self.new ≡ changed key.now (with_max_age now) self.old }
     {
-        set_end(&mut self.kept, key, now);
+        set_max_age_at(&mut self.kept, key, now);
     }
 
     /// Removes the LSA. Nothing happens where it isn't there.
@@ -116,11 +118,11 @@ impl Lsdb {
         let _gone = self.kept.remove(key);
     }
 
-    /// The LSAs of the greatest age, in ascending order. It takes memory for these alone.
-    pub fn gone(&self, now: u32) -> Result<Vec<LsaKey>, AllocError>
-        ensures { IfOk result (λ keys. keys.items ≡ gone now self.now) }
+    /// The LSAs of MaxAge, in ascending order (RFC 2328 section 14). It takes memory for these alone.
+    pub fn max_age_lsas(&self, now: u32) -> Result<Vec<LsaKey>, AllocError>
+        ensures { IfOk result (λ keys. keys.items ≡ max_age_lsas now self.now) }
     {
-        gone(self.alloc, &self.kept, now)
+        max_age_lsas(self.alloc, &self.kept, now)
     }
 
     /// How many LSAs there are.
@@ -188,11 +190,11 @@ fn set_sent(kept: &mut BTreeMap<LsaKey, Kept>, key: &LsaKey, now: u32)
     }
 }
 
-/// Sets the LSA to the greatest age, if it is there.
-fn set_end(kept: &mut BTreeMap<LsaKey, Kept>, key: &LsaKey, now: u32)
-    ensures { kept.new.entries ≡ changed key.now (at_end now) kept.old.entries }
+/// Sets the LSA to MaxAge, if it is there.
+fn set_max_age_at(kept: &mut BTreeMap<LsaKey, Kept>, key: &LsaKey, now: u32)
+    ensures { kept.new.entries ≡ changed key.now (with_max_age now) kept.old.entries }
 {
     if let Some(one) = kept.get_mut(key) {
-        one.end(now);
+        one.set_max_age(now);
     }
 }

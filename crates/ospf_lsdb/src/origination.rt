@@ -2,24 +2,27 @@
 
 ghost use Rattle.std.specs.Prelude.{◌≡◌, ◌↔◌, ◌≤◌, IsNone, IfOk, IfSome, OnOk, OnErr, IsSomeAnd, length, option_copied};
 ghost use Rattle.ospf_lsdb.specs.Keys.{own_key};
-ghost use Rattle.ospf_lsdb.specs.Database.{kept_at, originated, own_lsa, seq_after};
+ghost use Rattle.ospf_lsdb.specs.Database.{kept_at, originated, own_lsa, next_sequence_number};
 
 use crate::key::own_key;
 use crate::{Kept, LsaKey, Lsdb};
 use dn_guest::Bytes;
-use ospf_wire::{FIRST_SEQ, LAST_SEQ, Lsa, LsaHeader, fletcher_set};
+use ospf_wire::{
+    INITIAL_SEQUENCE_NUMBER, Lsa, LsaHeader, MAX_SEQUENCE_NUMBER, OWN_OPTIONS, ROUTER_LSA_TYPE,
+    fletcher_set,
+};
 use std::alloc::AllocError;
 
-/// The options of an LSA of the router's own: the E bit (RFC 2328 section A.2).
-const OPTIONS: u8 = 2;
-
-/// The sequence number behind that of the own LSA, and the first where there is none.
-fn seq_after(own: Option<&Kept>) -> Option<u32>
-    ensures { result ≡ seq_after (option_copied own.entry) }
+/// The sequence number behind that of the own LSA, and the first if there is no own LSA (RFC 2328 section
+/// 12.1.6).
+fn next_sequence_number(own: Option<&Kept>) -> Option<u32>
+    ensures { result ≡ next_sequence_number (option_copied own.entry) }
 {
     match own {
-        None => Some(FIRST_SEQ),
-        Some(kept) if kept.lsa.head.seq == LAST_SEQ => None,
+        // RFC 2328 section 12.1.6: an LSA begins with InitialSequenceNumber.
+        None => Some(INITIAL_SEQUENCE_NUMBER),
+        // This profile: nothing comes behind MaxSequenceNumber until the LSA has aged out.
+        Some(kept) if kept.lsa.head.seq == MAX_SEQUENCE_NUMBER => None,
         Some(kept) => Some(kept.lsa.head.seq.wrapping_add(1)),
     }
 }
@@ -32,8 +35,8 @@ fn own_lsa(router: u32, seq: u32, body: Bytes) -> Lsa
     let mut lsa = Lsa {
         head: LsaHeader {
             age: 0,
-            options: OPTIONS,
-            kind: 1,
+            options: OWN_OPTIONS,
+            kind: ROUTER_LSA_TYPE,
             id: router,
             router,
             seq,
@@ -47,8 +50,8 @@ fn own_lsa(router: u32, seq: u32, body: Bytes) -> Lsa
 }
 
 impl Lsdb {
-    /// Originates the router's own LSA with this body at this tick: the next sequence number, and the
-    /// first where there is no own LSA. Where it stands at the greatest sequence number nothing happens.
+    /// Originates the router's own LSA with this body at this tick (RFC 2328 section 12.4): the next sequence
+    /// number, and the first if there is no own LSA. If it is at MaxSequenceNumber nothing happens.
     pub fn originate(
         &mut self,
         router: u32,
@@ -58,12 +61,12 @@ impl Lsdb {
         requires { length body ≤ 1380 }
         ensures key { IfOk result (λ made. IfSome made (λ key. key ≡ own_key router)) }
         ensures none { IfOk result (λ made. IsNone made
-            ↔ IsSomeAnd (kept_at self.old (own_key router)) (λ k. k.lsa.head.seq ≡ LAST_SEQ)) }
+            ↔ IsSomeAnd (kept_at self.old (own_key router)) (λ k. k.lsa.head.seq ≡ MAX_SEQUENCE_NUMBER)) }
         ensures database { OnOk result (self.new ≡ originated self.old router body now) }
         ensures err { OnErr result (self.new ≡ self.old) }
     {
         let key = own_key(router);
-        let Some(seq) = seq_after(self.get(&key)) else {
+        let Some(seq) = next_sequence_number(self.get(&key)) else {
             return Ok(None);
         };
         self.install(own_lsa(router, seq, body), now, false, false)?;

@@ -14,13 +14,13 @@ use Rattle.dn_guest.specs.Ports.{is_up}
 use Rattle.ospf_lsdb.specs.declared.key.LsaKey.{LsaKey}
 use Rattle.ospf_lsdb.specs.declared.kept.Kept.{Kept}
 use Rattle.ospf_lsdb.specs.Keys.{key_cmp}
-use Rattle.ospf_lsdb.specs.Kept.{at_end, reaches_end}
+use Rattle.ospf_lsdb.specs.Kept.{with_max_age, reaches_max_age}
 use Rattle.ospf_lsdb.specs.Database.{Database, aged, changed, kept_at, with_kept, without}
 use Rattle.ospf_lsdb.proofs.DatabaseLaws.{exact_keys}
-use Rattle.ospf_flood.specs.Lists.{OnPort, OnPorts, list_of, off, off_all, tick_of, with_tick}
+use Rattle.ospf_flood.specs.Retransmission.{OnPort, OnPorts, list_of, without_lsa, without_lsa_anywhere, last_sent, with_lsa}
 use Rattle.ospf_flood.specs.Flooding.{put_from}
 use Rattle.ospf_router.specs.Sound.{IsSoundDatabase, IsSoundEntry, IsSoundList, most}
-use Rattle.ospf_flood.proofs.ListLaws.{key_cmp_total}
+use Rattle.ospf_flood.proofs.RetransmissionLaws.{key_cmp_total}
 use Rattle.ospf_router.proofs.Rising.{all_more, each-insert, each-remove, finds-insert, finds-remove, is_eq-true, length-insert, length-remove, one, rises-insert, rises-remove}
 
 abbrev pub Has : Database → LsaKey → Type 0
@@ -90,19 +90,19 @@ sound-changed own key change db keeps sound =
 
 -- ---- aging
 
-pub sound-at_end : (now : ℕ) (e : LsaKey × Kept) → IsSoundEntry e → IsSoundEntry (e.0, at_end now e.1)
-sound-at_end now e sound = record { named = sound.named; sendable = sound.sendable; sent = sound.sent }
+pub sound-with_max_age : (now : ℕ) (e : LsaKey × Kept) → IsSoundEntry e → IsSoundEntry (e.0, with_max_age now e.1)
+sound-with_max_age now e sound = record { named = sound.named; sendable = sound.sendable; sent = sound.sent }
 
-aged_by : (b : Bool) (now : ℕ) (e : LsaKey × Kept) → IsSoundEntry e → IsSoundEntry (e.0, cond b (at_end now e.1) e.1)
-aged_by true now e sound = sound-at_end now e sound
+aged_by : (b : Bool) (now : ℕ) (e : LsaKey × Kept) → IsSoundEntry e → IsSoundEntry (e.0, cond b (with_max_age now e.1) e.1)
+aged_by true now e sound = sound-with_max_age now e sound
 aged_by false now e sound = sound
 
 each-aged : (now : ℕ) (db : Database) → AllByRecursion IsSoundEntry db → AllByRecursion IsSoundEntry (aged now db)
 each-aged now [] all = tt
-each-aged now (e ∷ db) all = (aged_by (reaches_end now e.1) now e all.0, each-aged now db all.1)
+each-aged now (e ∷ db) all = (aged_by (reaches_max_age now e.1) now e all.0, each-aged now db all.1)
 
 pub keys-aged : (now : ℕ) (db : Database) → keys_of (aged now db) ≡ keys_of db
-keys-aged now db = keys_of-map_values (λ (k : Kept). cond (reaches_end now k) (at_end now k) k) db
+keys-aged now db = keys_of-map_values (λ (k : Kept). cond (reaches_max_age now k) (with_max_age now k) k) db
 
 pub sound-aged : (own : LsaKey) (now : ℕ) (db : Database) → IsSoundDatabase own db → IsSoundDatabase own (aged now db)
 sound-aged own now db sound = sound_same own (aged now db) db (keys-aged now db) (each-aged now db sound.each) sound
@@ -184,13 +184,13 @@ pub empty_list : (db : Database) → IsSoundList db []
 unfolding IsStrictlySortedBy
 empty_list db = record { rising = tt; kept = tt }
 
-pub with_list : (db : Database) (l : OnPort) (key : LsaKey) (tick : ℕ) → Has db key → IsSoundList db l → IsSoundList db (with_tick l key tick)
+pub with_list : (db : Database) (l : OnPort) (key : LsaKey) (tick : ℕ) → Has db key → IsSoundList db l → IsSoundList db (with_lsa l key tick)
 with_list db l key tick has sound = record { rising = rises-insert key_cmp_total l key tick sound.rising; kept = each-insert key_cmp (Has db) l key tick has sound.kept }
 
-pub off_list : (db : Database) (key : LsaKey) (l : OnPort) → IsSoundList db l → IsSoundList db (off key l)
+pub off_list : (db : Database) (key : LsaKey) (l : OnPort) → IsSoundList db l → IsSoundList db (without_lsa key l)
 off_list db key l sound = record { rising = rises-remove key_cmp (is_at (key_cmp key)) l sound.rising; kept = each-remove (Has db) (is_at (key_cmp key)) l sound.kept }
 
-put_by : (b : Bool) (db : Database) (l : OnPort) (key : LsaKey) (tick : ℕ) → Has db key → IsSoundList db l → IsSoundList db (cond b (with_tick l key tick) l)
+put_by : (b : Bool) (db : Database) (l : OnPort) (key : LsaKey) (tick : ℕ) → Has db key → IsSoundList db l → IsSoundList db (cond b (with_lsa l key tick) l)
 put_by true db l key tick has sound = with_list db l key tick has sound
 put_by false db l key tick has sound = sound
 
@@ -198,7 +198,7 @@ pub put_lists : (db : Database) (p ports tick : ℕ) (key : LsaKey) (ls : OnPort
 put_lists db p ports tick key [] has all = tt
 put_lists db p ports tick key (l ∷ ls) has all = (put_by (is_up ports p) db l key tick has all.0, put_lists db (p + 1) ports tick key ls has all.1)
 
-pub off_lists : (db : Database) (key : LsaKey) (ls : OnPorts) → AllByRecursion (IsSoundList db) ls → AllByRecursion (IsSoundList db) (off_all key ls)
+pub off_lists : (db : Database) (key : LsaKey) (ls : OnPorts) → AllByRecursion (IsSoundList db) ls → AllByRecursion (IsSoundList db) (without_lsa_anywhere key ls)
 off_lists db key [] all = tt
 off_lists db key (l ∷ ls) all = (off_list db key l all.0, off_lists db key ls all.1)
 
@@ -224,14 +224,14 @@ keys_left db key (k ∷ ks) away all =
     let none = or_none (is_at (key_cmp key) k) (list_any (is_at (key_cmp key)) ks) away in
     (finds-remove key_cmp_total db key k none.0 all.0, keys_left db key ks none.1 all.1)
 
-list_left : (db : Database) (key : LsaKey) (l : OnPort) → is_some (tick_of l key) ≡ false → IsSoundList db l → IsSoundList (without db key) l
+list_left : (db : Database) (key : LsaKey) (l : OnPort) → is_some (last_sent l key) ≡ false → IsSoundList db l → IsSoundList (without db key) l
 list_left db key l away sound = record {
   rising = sound.rising;
   kept = keys_left db key (keys_of l) (sym (is_some-lookup (is_at (key_cmp key)) l) ∙ away) sound.kept;
 }
 
-pub lists_left : (db : Database) (key : LsaKey) (ls : OnPorts) → list_any (λ (l : OnPort). is_some (tick_of l key)) ls ≡ false → AllByRecursion (IsSoundList db) ls → AllByRecursion (IsSoundList (without db key)) ls
+pub lists_left : (db : Database) (key : LsaKey) (ls : OnPorts) → list_any (λ (l : OnPort). is_some (last_sent l key)) ls ≡ false → AllByRecursion (IsSoundList db) ls → AllByRecursion (IsSoundList (without db key)) ls
 lists_left db key [] away all = tt
 lists_left db key (l ∷ ls) away all =
-    let none = or_none (is_some (tick_of l key)) (list_any (λ (x : OnPort). is_some (tick_of x key)) ls) away in
+    let none = or_none (is_some (last_sent l key)) (list_any (λ (x : OnPort). is_some (last_sent x key)) ls) away in
     (list_left db key l none.0 all.0, lists_left db key ls none.1 all.1)

@@ -11,7 +11,7 @@ use Rattle.ospf_router.specs.declared.interfaces.Port.{Port}
 use Rattle.ospf_router.specs.contracts.neighbour.HeardPartialEq.TheImpl as heards
 use Rattle.ospf_router.specs.contracts.neighbour.NeighbourPartialEq.TheImpl as neighbours
 use Rattle.ospf_router.specs.contracts.interfaces.PortPartialEq.TheImpl as ports
-use Rattle.ospf_flood.specs.Lists.{OnPorts}
+use Rattle.ospf_flood.specs.Retransmission.{OnPorts}
 use Rattle.ospf_router.specs.Interfaces.{at_ports}
 use Rattle.ospf_router.specs.Prefixes.{Network}
 

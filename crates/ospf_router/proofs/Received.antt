@@ -11,21 +11,21 @@ use Rattle.ospf_wire.specs.declared.lsa.Lsa.{Lsa}
 use Rattle.ospf_lsdb.specs.declared.key.LsaKey.{LsaKey}
 use Rattle.ospf_lsdb.specs.declared.kept.Kept.{Kept}
 use Rattle.ospf_lsdb.specs.Keys.{key_cmp, key_of}
-use Rattle.ospf_lsdb.specs.Kept.{at_end, fresh, sent_at}
+use Rattle.ospf_lsdb.specs.Kept.{with_max_age, fresh, sent_at}
 use Rattle.ospf_lsdb.specs.Database.{Database, changed, kept_at, with_kept}
-use Rattle.ospf_flood.specs.declared.table.Verdict.{Verdict}
-use Rattle.ospf_flood.specs.declared.table.Verdict.TheVariants.{Discarded, Acked, Installed, SentBack, Implied}
-use Rattle.ospf_flood.specs.Lists.{list_of, off, off_all, tick_of}
-use Rattle.ospf_flood.specs.Flooding.{State, flooded, noted}
-use Rattle.ospf_flood.specs.Table.{by_table, has_right_sum, is_router_lsa, verdict_of}
-use Rattle.ospf_flood.specs.Receiving.{after, flushed, installed, is_own, is_stray, received, spread, to_install}
-use Rattle.ospf_flood.proofs.ListLaws.{key_cmp_total}
+use Rattle.ospf_flood.specs.declared.verdict.Verdict.{Verdict}
+use Rattle.ospf_flood.specs.declared.verdict.Verdict.TheVariants.{Discarded, Acked, Installed, SentBack, Implied}
+use Rattle.ospf_flood.specs.Retransmission.{list_of, without_lsa, without_lsa_anywhere, last_sent}
+use Rattle.ospf_flood.specs.Flooding.{State, flooded, note_flooded}
+use Rattle.ospf_flood.specs.Verdicts.{receive_table, has_right_sum, is_router_lsa, verdict_of}
+use Rattle.ospf_flood.specs.Receiving.{apply_verdict, flushed, installed, is_own_router_lsa, is_other_self_originated, received, flood_received, to_install}
+use Rattle.ospf_flood.proofs.RetransmissionLaws.{key_cmp_total}
 use Rattle.ospf_router.specs.Sound.{IsSoundDatabase, IsSoundEntry, IsSoundList}
-use Rattle.ospf_router.specs.Updates.{is_sendable}
+use Rattle.ospf_router.specs.BuildUpdates.{is_sendable}
 use Rattle.ospf_router.proofs.Choice.{choose}
 use Rattle.ospf_router.proofs.Lengths.{length-flooded}
 use Rattle.ospf_router.proofs.Rising.{finds-insert, finds-new}
-use Rattle.ospf_router.proofs.Database.{Has, has-kept, keys-changed, le-most, list_at, lists_more, off_list, off_lists, put_lists, set_lists, sound-at_end, sound-changed, sound-with}
+use Rattle.ospf_router.proofs.Database.{Has, has-kept, keys-changed, le-most, list_at, lists_more, off_list, off_lists, put_lists, set_lists, sound-with_max_age, sound-changed, sound-with}
 
 -- a database and its lists, so many of them
 pub record IsSound (own : LsaKey) (many : ℕ) (s : State) : Type 0 where
@@ -38,20 +38,20 @@ sound-sent_at now few e sound = record { named = sound.named; sendable = sound.s
 
 -- ---- flooding
 
-pub keys-noted : (mask now : ℕ) (key : LsaKey) (db : Database) → keys_of (noted mask key now db) ≡ keys_of db
-keys-noted mask now key db =
+pub keys-note_flooded : (mask now : ℕ) (key : LsaKey) (db : Database) → keys_of (note_flooded mask key now db) ≡ keys_of db
+keys-note_flooded mask now key db =
     choose (λ (d : Database). keys_of d ≡ keys_of db) (mask == 0) db (changed key (sent_at now) db) (λ _. refl) (λ _. keys-changed key (sent_at now) db)
 
-sound-noted : (own key : LsaKey) (mask now : ℕ) (db : Database) → now ≤ 65535 → IsSoundDatabase own db → IsSoundDatabase own (noted mask key now db)
-sound-noted own key mask now db few sound =
+sound-note_flooded : (own key : LsaKey) (mask now : ℕ) (db : Database) → now ≤ 65535 → IsSoundDatabase own db → IsSoundDatabase own (note_flooded mask key now db)
+sound-note_flooded own key mask now db few sound =
     choose (IsSoundDatabase own) (mask == 0) db (changed key (sent_at now) db) (λ _. sound) (λ _. sound-changed own key (sent_at now) db (sound-sent_at now few) sound)
 
 pub sound-flooded : (own key : LsaKey) (many mask now : ℕ) (s : State) → now ≤ 65535 → Has s.db key → IsSound own many s → IsSound own many (flooded mask key now s)
 sound-flooded own key many mask now s few has sound =
-    let kept : (q : LsaKey) → Has s.db q → Has (noted mask key now s.db) q = λ q h. has-kept (noted mask key now s.db) s.db q (keys-noted mask now key s.db) h in
+    let kept : (q : LsaKey) → Has s.db q → Has (note_flooded mask key now s.db) q = λ q h. has-kept (note_flooded mask key now s.db) s.db q (keys-note_flooded mask now key s.db) h in
     record {
-      database = sound-noted own key mask now s.db few sound.database;
-      listed = put_lists (noted mask key now s.db) 0 mask now key s.lists (kept key has) (lists_more s.db (noted mask key now s.db) s.lists kept sound.listed);
+      database = sound-note_flooded own key mask now s.db few sound.database;
+      listed = put_lists (note_flooded mask key now s.db) 0 mask now key s.lists (kept key has) (lists_more s.db (note_flooded mask key now s.db) s.lists kept sound.listed);
       count = length-flooded mask key now s ∙ sound.count;
     }
 
@@ -61,7 +61,7 @@ sound-fresh : (l : Lsa) (now : ℕ) (foreign : Bool) → is_sendable l ≡ true 
 sound-fresh l now foreign sendable = record { named = refl; sendable = sendable; sent = tt }
 
 placed : (s : State) (l : Lsa) (now : ℕ) (foreign : Bool) → State
-placed s l now foreign = record { db = with_kept s.db (key_of l.head) (fresh (to_install l) now true foreign); lists = off_all (key_of l.head) s.lists }
+placed s l now foreign = record { db = with_kept s.db (key_of l.head) (fresh (to_install l) now true foreign); lists = without_lsa_anywhere (key_of l.head) s.lists }
 
 sound-placed : (own : LsaKey) (many : ℕ) (s : State) (l : Lsa) (now : ℕ) (foreign : Bool) → is_sendable l ≡ true → (is_some (kept_at s.db (key_of l.head)) ≡ false → length s.db ≤ 65533) → IsSound own many s → IsSound own many (placed s l now foreign)
 unfolding placed
@@ -72,62 +72,62 @@ sound-placed own many s l now foreign sendable room sound =
     record {
       database = sound-with own key k s.db (sound-fresh l now foreign sendable) (λ none. omega (arith, room none, le-most (kept_at (with_kept s.db key k) own))) sound.database;
       listed = off_lists (with_kept s.db key k) key s.lists (lists_more s.db (with_kept s.db key k) s.lists kept sound.listed);
-      count = length-map s.lists (off key) ∙ sound.count;
+      count = length-map s.lists (without_lsa key) ∙ sound.count;
     }
 
-sound-spread : (own : LsaKey) (many : ℕ) (s : State) (full from : ℕ) (l : Lsa) (id now : ℕ) → now ≤ 65535 → is_sendable l ≡ true → (is_some (kept_at s.db (key_of l.head)) ≡ false → length s.db ≤ 65533) → IsSound own many s
-    → IsSound own many (spread s full from l id now)
+sound-flood_received : (own : LsaKey) (many : ℕ) (s : State) (full from : ℕ) (l : Lsa) (id now : ℕ) → now ≤ 65535 → is_sendable l ≡ true → (is_some (kept_at s.db (key_of l.head)) ≡ false → length s.db ≤ 65533) → IsSound own many s
+    → IsSound own many (flood_received s full from l id now)
 unfolding placed
-sound-spread own many s full from l id now few sendable room sound =
-    sound-flooded own (key_of l.head) many (with_down full from) now (placed s l now (is_own l id)) few
-    (finds-new key_cmp_total s.db (key_of l.head) (fresh (to_install l) now true (is_own l id)))
-    (sound-placed own many s l now (is_own l id) sendable room sound)
+sound-flood_received own many s full from l id now few sendable room sound =
+    sound-flooded own (key_of l.head) many (with_down full from) now (placed s l now (is_own_router_lsa l id)) few
+    (finds-new key_cmp_total s.db (key_of l.head) (fresh (to_install l) now true (is_own_router_lsa l id)))
+    (sound-placed own many s l now (is_own_router_lsa l id) sendable room sound)
 
-has-spread : (s : State) (full from : ℕ) (l : Lsa) (id now : ℕ) → Has (spread s full from l id now).db (key_of l.head)
-has-spread s full from l id now =
-    let k : Kept = fresh (to_install l) now true (is_own l id) in
-    has-kept (spread s full from l id now).db (with_kept s.db (key_of l.head) k) (key_of l.head)
-    (keys-noted (with_down full from) now (key_of l.head) (with_kept s.db (key_of l.head) k)) (finds-new key_cmp_total s.db (key_of l.head) k)
+has-flood_received : (s : State) (full from : ℕ) (l : Lsa) (id now : ℕ) → Has (flood_received s full from l id now).db (key_of l.head)
+has-flood_received s full from l id now =
+    let k : Kept = fresh (to_install l) now true (is_own_router_lsa l id) in
+    has-kept (flood_received s full from l id now).db (with_kept s.db (key_of l.head) k) (key_of l.head)
+    (keys-note_flooded (with_down full from) now (key_of l.head) (with_kept s.db (key_of l.head) k)) (finds-new key_cmp_total s.db (key_of l.head) k)
 
-ended : (now : ℕ) (key : LsaKey) (s : State) → State
-ended now key s = record s { db = changed key (at_end now) s.db }
+age_lsas : (now : ℕ) (key : LsaKey) (s : State) → State
+age_lsas now key s = record s { db = changed key (with_max_age now) s.db }
 
-sound-ended : (own key : LsaKey) (many now : ℕ) (s : State) → IsSound own many s → IsSound own many (ended now key s)
-unfolding ended
-sound-ended own key many now s sound = record {
-  database = sound-changed own key (at_end now) s.db (sound-at_end now) sound.database;
-  listed = lists_more s.db (changed key (at_end now) s.db) s.lists (λ q h. has-kept (changed key (at_end now) s.db) s.db q (keys-changed key (at_end now) s.db) h) sound.listed;
+sound-age_lsas : (own key : LsaKey) (many now : ℕ) (s : State) → IsSound own many s → IsSound own many (age_lsas now key s)
+unfolding age_lsas
+sound-age_lsas own key many now s sound = record {
+  database = sound-changed own key (with_max_age now) s.db (sound-with_max_age now) sound.database;
+  listed = lists_more s.db (changed key (with_max_age now) s.db) s.lists (λ q h. has-kept (changed key (with_max_age now) s.db) s.db q (keys-changed key (with_max_age now) s.db) h) sound.listed;
   count = sound.count;
 }
 
 sound-flushed : (own key : LsaKey) (many full now : ℕ) (s : State) → now ≤ 65535 → Has s.db key → IsSound own many s → IsSound own many (flushed s full key now)
-unfolding ended
+unfolding age_lsas
 sound-flushed own key many full now s few has sound =
-    sound-flooded own key many full now (ended now key s) few (has-kept (changed key (at_end now) s.db) s.db key (keys-changed key (at_end now) s.db) has) (sound-ended own key many now s sound)
+    sound-flooded own key many full now (age_lsas now key s) few (has-kept (changed key (with_max_age now) s.db) s.db key (keys-changed key (with_max_age now) s.db) has) (sound-age_lsas own key many now s sound)
 
 sound-installed : (own : LsaKey) (many : ℕ) (s : State) (full from : ℕ) (l : Lsa) (id now : ℕ) → now ≤ 65535 → is_sendable l ≡ true → (is_some (kept_at s.db (key_of l.head)) ≡ false → length s.db ≤ 65533) → IsSound own many s
     → IsSound own many (installed s full from l id now)
 sound-installed own many s full from l id now few sendable room sound =
-    let here = sound-spread own many s full from l id now few sendable room sound in
-    choose (IsSound own many) (is_stray l id) (flushed (spread s full from l id now) full (key_of l.head) now) (spread s full from l id now)
-    (λ _. sound-flushed own (key_of l.head) many full now (spread s full from l id now) few (has-spread s full from l id now) here) (λ _. here)
+    let here = sound-flood_received own many s full from l id now few sendable room sound in
+    choose (IsSound own many) (is_other_self_originated l id) (flushed (flood_received s full from l id now) full (key_of l.head) now) (flood_received s full from l id now)
+    (λ _. sound-flushed own (key_of l.head) many full now (flood_received s full from l id now) few (has-flood_received s full from l id now) here) (λ _. here)
 
 -- ---- by the verdict
 
-sound-after : (v : Verdict) (own : LsaKey) (many : ℕ) (s : State) (full from : ℕ) (l : Lsa) (id now : ℕ) → now ≤ 65535 → is_sendable l ≡ true → (v ≡ Installed → is_some (kept_at s.db (key_of l.head)) ≡ false → length s.db ≤ 65533)
-    → IsSound own many s → IsSound own many (after v s full from l id now)
-sound-after Discarded own many s full from l id now few sendable room sound = sound
-sound-after Acked own many s full from l id now few sendable room sound = sound
-sound-after Installed own many s full from l id now few sendable room sound = sound-installed own many s full from l id now few sendable (room refl) sound
-sound-after SentBack own many s full from l id now few sendable room sound = record {
+sound-apply_verdict : (v : Verdict) (own : LsaKey) (many : ℕ) (s : State) (full from : ℕ) (l : Lsa) (id now : ℕ) → now ≤ 65535 → is_sendable l ≡ true → (v ≡ Installed → is_some (kept_at s.db (key_of l.head)) ≡ false → length s.db ≤ 65533)
+    → IsSound own many s → IsSound own many (apply_verdict v s full from l id now)
+sound-apply_verdict Discarded own many s full from l id now few sendable room sound = sound
+sound-apply_verdict Acked own many s full from l id now few sendable room sound = sound
+sound-apply_verdict Installed own many s full from l id now few sendable room sound = sound-installed own many s full from l id now few sendable (room refl) sound
+sound-apply_verdict SentBack own many s full from l id now few sendable room sound = record {
   database = sound-changed own (key_of l.head) (sent_at now) s.db (sound-sent_at now few) sound.database;
   listed = lists_more s.db (changed (key_of l.head) (sent_at now) s.db) s.lists (λ q h. has-kept (changed (key_of l.head) (sent_at now) s.db) s.db q (keys-changed (key_of l.head) (sent_at now) s.db) h) sound.listed;
   count = sound.count;
 }
-sound-after Implied own many s full from l id now few sendable room sound = record {
+sound-apply_verdict Implied own many s full from l id now few sendable room sound = record {
   database = sound.database;
-  listed = set_lists s.db s.lists from (off (key_of l.head) (list_of s.lists from)) (off_list s.db (key_of l.head) (list_of s.lists from) (list_at s.db s.lists from sound.listed)) sound.listed;
-  count = length-set s.lists from (off (key_of l.head) (list_of s.lists from)) ∙ sound.count;
+  listed = set_lists s.db s.lists from (without_lsa (key_of l.head) (list_of s.lists from)) (off_list s.db (key_of l.head) (list_of s.lists from) (list_at s.db s.lists from sound.listed)) sound.listed;
+  count = length-set s.lists from (without_lsa (key_of l.head) (list_of s.lists from)) ∙ sound.count;
 }
 
 -- what is installed where there is no copy comes where there is room
@@ -141,11 +141,11 @@ room_left : (o : Option Kept) (count : ℕ) → (is_none o && nat_le 65534 count
 room_left None count h none = grind (arith, nat_tests)
 room_left (Some k) count h none = absurd cc
 
-table_room : (l : Lsa) (now : ℕ) (copy : Option Kept) (count : ℕ) (listed : Bool) → by_table l now copy count listed ≡ Installed → is_some copy ≡ false → count ≤ 65533
+table_room : (l : Lsa) (now : ℕ) (copy : Option Kept) (count : ℕ) (listed : Bool) → receive_table l now copy count listed ≡ Installed → is_some copy ≡ false → count ≤ 65533
 table_room l now copy count listed h none =
     room_left copy count (passed (has_right_sum l) (is_router_lsa l) (is_none copy && nat_le 65534 count) _ h) none
 
 pub sound-received : (own : LsaKey) (many : ℕ) (s : State) (full from : ℕ) (l : Lsa) (id now : ℕ) → now ≤ 65535 → is_sendable l ≡ true → IsSound own many s → IsSound own many (received s full from l id now)
 sound-received own many s full from l id now few sendable sound =
-    sound-after (verdict_of s.db (list_of s.lists from) l now) own many s full from l id now few sendable
-    (table_room l now (kept_at s.db (key_of l.head)) (length s.db) (is_some (tick_of (list_of s.lists from) (key_of l.head)))) sound
+    sound-apply_verdict (verdict_of s.db (list_of s.lists from) l now) own many s full from l id now few sendable
+    (table_room l now (kept_at s.db (key_of l.head)) (length s.db) (is_some (last_sent (list_of s.lists from) (key_of l.head)))) sound

@@ -25,27 +25,27 @@ use Rattle.ospf_lsdb.specs.declared.key.LsaKey.{LsaKey}
 use Rattle.ospf_lsdb.specs.declared.kept.Kept.{Kept}
 use Rattle.ospf_lsdb.specs.Keys.{key_cmp, own_key}
 use Rattle.ospf_lsdb.specs.Kept.{fresh}
-use Rattle.ospf_lsdb.specs.Database.{Database, gone, kept_at, own_lsa, seq_after, with_kept, with_own, without}
-use Rattle.ospf_flood.specs.Lists.{OnPorts, off, off_all}
-use Rattle.ospf_flood.proofs.ListLaws.{key_cmp_total}
+use Rattle.ospf_lsdb.specs.Database.{Database, max_age_lsas, kept_at, own_lsa, next_sequence_number, with_kept, with_own, without}
+use Rattle.ospf_flood.specs.Retransmission.{OnPorts, without_lsa, without_lsa_anywhere}
+use Rattle.ospf_flood.proofs.RetransmissionLaws.{key_cmp_total}
 use Rattle.ospf_router.specs.declared.router.Router.{Router}
 use Rattle.ospf_router.specs.Commands.{commanded, is_removal, is_setting}
-use Rattle.ospf_router.specs.Interfaces.{AtPorts, full_mask, has_port, is_listed, lowered, opening_port}
-use Rattle.ospf_router.specs.Origination.{advertised, finished, has_next, is_outdated, links_from, may_originate, removed, removed_one, renewed, stub_of, wanted_body, wanted_links}
+use Rattle.ospf_router.specs.Interfaces.{AtPorts, full_mask, has_port, is_listed, neighbour_down, opening_port}
+use Rattle.ospf_router.specs.Origination.{originate_if_needed, finish_step, has_next_sequence_number, is_outdated, links_from, may_originate, remove_max_age_lsas, remove_max_age_lsa, originate_own_lsa, stub_of, wanted_body, wanted_links}
 use Rattle.ospf_router.specs.Prefixes.{Network, Networks, has_room, is_network, network_cmp, with_network, without_network}
-use Rattle.ospf_router.specs.Sending.{flooded_on}
+use Rattle.ospf_router.specs.Flooding.{flood_lsa}
 use Rattle.ospf_router.specs.Sound.{HasBytes, IsSoundDatabase, IsSoundEntry, IsSoundList, IsSoundNetworks, IsSoundState, most, ospf_run}
 use Rattle.ospf_router.specs.State.{OspfState, Prefix, id_of, opening, opening_prefixes, router_of, with_prefix}
-use Rattle.ospf_router.specs.Step.{body_taken, handled, is_from_full, is_passed_over, message, next, ospf_after, packet_taken, port_down, stepped}
-use Rattle.ospf_router.specs.Receiving.{updated}
-use Rattle.ospf_router.specs.Acknowledging.{acked}
-use Rattle.ospf_router.specs.Updates.{is_sendable}
+use Rattle.ospf_router.specs.Step.{receive_body, handled, is_from_full, is_passed_over, receive_message, next, ospf_after, receive_packet, port_down, stepped}
+use Rattle.ospf_router.specs.ReceiveUpdate.{receive_update}
+use Rattle.ospf_router.specs.ReceiveAcknowledgement.{receive_acknowledgement}
+use Rattle.ospf_router.specs.BuildUpdates.{is_sendable}
 use Rattle.ospf_router.proofs.Choice.{choose, folded}
 use Rattle.ospf_router.proofs.LinkLaws.{few_links}
 use Rattle.ospf_router.proofs.PrefixLaws.{room_left}
 use Rattle.ospf_router.proofs.Rising.{finds-insert, finds-new, length-insert, length-remove, one, rises-insert, rises-remove}
 use Rattle.ospf_router.proofs.Database.{empty_list, lists_left, lists_more, off_lists, sound-with, sound-without}
-use Rattle.ospf_router.proofs.Routers.{IsSoundRouter, at-lowered, at_of, sound-acked, sound-at, sound-flooded_on, sound-greeted_by, sound-ticked, sound-updated}
+use Rattle.ospf_router.proofs.Routers.{IsSoundRouter, at-neighbour_down, at_of, sound-receive_acknowledgement, sound-at, sound-flood_lsa, sound-receive_hello, sound-ticked, sound-receive_update}
 
 -- ---- the own networks
 
@@ -117,25 +117,25 @@ byte_at bytes all i = byte_by (nat_lt i (length bytes)) bytes i refl all
 
 -- ---- a message
 
-sound-body : (ports port from area : ℕ) (b : Body) (r : Router) → IsEncodable (record { router = from; area = area; body = b }) → IsSoundRouter r → IsSoundRouter (body_taken ports port from b r)
-unfolding body_taken
-sound-body ports port from area (body.Hello h) r fits sound = sound-greeted_by port from h r sound
+sound-body : (ports port from area : ℕ) (b : Body) (r : Router) → IsEncodable (record { router = from; area = area; body = b }) → IsSoundRouter r → IsSoundRouter (receive_body ports port from b r)
+unfolding receive_body
+sound-body ports port from area (body.Hello h) r fits sound = sound-receive_hello port from h r sound
 sound-body ports port from area (body.Update ls) r fits sound =
-    choose IsSoundRouter (is_from_full port from r) (updated (full_mask ports r.interfaces) port ls r) r
-    (λ _. sound-updated (full_mask ports r.interfaces) port ls r (sendable_body from area ls fits) sound) (λ _. sound)
+    choose IsSoundRouter (is_from_full port from r) (receive_update (full_mask ports r.interfaces) port ls r) r
+    (λ _. sound-receive_update (full_mask ports r.interfaces) port ls r (sendable_body from area ls fits) sound) (λ _. sound)
 sound-body ports port from area (body.Ack hs) r fits sound =
-    choose IsSoundRouter (is_from_full port from r) (acked port hs r) r (λ _. sound-acked port hs r sound) (λ _. sound)
+    choose IsSoundRouter (is_from_full port from r) (receive_acknowledgement port hs r) r (λ _. sound-receive_acknowledgement port hs r sound) (λ _. sound)
 
-sound-packet_taken : (ports port : ℕ) (found : Option Packet) (r : Router) → IfSome found IsEncodable → IsSoundRouter r → IsSoundRouter (packet_taken ports port found r)
-sound-packet_taken ports port None r fits sound = sound
-sound-packet_taken ports port (Some p) r fits sound =
-    choose IsSoundRouter (p.area == 0) (body_taken ports port p.router p.body r) r (λ _. sound-body ports port p.router p.area p.body r fits sound) (λ _. sound)
+sound-receive_packet : (ports port : ℕ) (found : Option Packet) (r : Router) → IfSome found IsEncodable → IsSoundRouter r → IsSoundRouter (receive_packet ports port found r)
+sound-receive_packet ports port None r fits sound = sound
+sound-receive_packet ports port (Some p) r fits sound =
+    choose IsSoundRouter (p.area == 0) (receive_body ports port p.router p.body r) r (λ _. sound-body ports port p.router p.area p.body r fits sound) (λ _. sound)
 
-sound-message : (ports port : ℕ) (bytes : List ℕ) (r : Router) → All (λ b. b < 2 ^ 8) bytes → IsSoundRouter r → IsSoundRouter (message ports port bytes r)
-unfolding message
-sound-message ports port bytes r all sound =
-    choose IsSoundRouter (has_port r.interfaces port) (packet_taken ports port (packet_at bytes) r) r
-    (λ _. sound-packet_taken ports port (packet_at bytes) r (is_encodable bytes (byte_at bytes all) (packet_at bytes) refl) sound) (λ _. sound)
+sound-receive_message : (ports port : ℕ) (bytes : List ℕ) (r : Router) → All (λ b. b < 2 ^ 8) bytes → IsSoundRouter r → IsSoundRouter (receive_message ports port bytes r)
+unfolding receive_message
+sound-receive_message ports port bytes r all sound =
+    choose IsSoundRouter (has_port r.interfaces port) (receive_packet ports port (packet_at bytes) r) r
+    (λ _. sound-receive_packet ports port (packet_at bytes) r (is_encodable bytes (byte_at bytes all) (packet_at bytes) refl) sound) (λ _. sound)
 
 -- ---- the end of a step
 
@@ -163,7 +163,7 @@ most-own (Some k) h = refl
 renewed_router : Database → Router → Router
 renewed_router d r = record r {
   originated = Some r.tick;
-  interfaces = record r.interfaces { lists = off_all (own_key (id_of r)) r.interfaces.lists };
+  interfaces = record r.interfaces { lists = without_lsa_anywhere (own_key (id_of r)) r.interfaces.lists };
   db = d;
 }
 
@@ -177,36 +177,36 @@ sound-renewed_router k r new sound =
       tick = sound.tick;
       networks = sound.networks;
       ports = sound.ports;
-      lists = length-map r.interfaces.lists (off own) ∙ sound.lists;
+      lists = length-map r.interfaces.lists (without_lsa own) ∙ sound.lists;
       database = sound-with own own k r.db new (λ none. omega (arith, own_there, most-none (kept_at r.db own) none, sound.database.few)) sound.database;
       listed = off_lists d own r.interfaces.lists (lists_more r.db d r.interfaces.lists (λ q h. finds-insert key_cmp r.db own k q h) sound.listed);
     }
 
 sound-flooded_own : (full : ℕ) (k : Kept) (r : Router) → IsSoundRouter (renewed_router (with_kept r.db (own_key (id_of r)) k) r)
-    → IsSoundRouter (flooded_on full (own_key (id_of r)) (renewed_router (with_kept r.db (own_key (id_of r)) k) r))
+    → IsSoundRouter (flood_lsa full (own_key (id_of r)) (renewed_router (with_kept r.db (own_key (id_of r)) k) r))
 unfolding renewed_router
 sound-flooded_own full k r sound =
-    sound-flooded_on full (own_key (id_of r)) (renewed_router (with_kept r.db (own_key (id_of r)) k) r) (finds-new key_cmp_total r.db (own_key (id_of r)) k) sound
+    sound-flood_lsa full (own_key (id_of r)) (renewed_router (with_kept r.db (own_key (id_of r)) k) r) (finds-new key_cmp_total r.db (own_key (id_of r)) k) sound
 
 renewed_by : (seq : Option ℕ) (full : ℕ) (bytes : List ℕ) (r : Router) → is_some seq ≡ true → length bytes ≤ 1000 → IsSoundRouter r
-    → IsSoundRouter (flooded_on full (own_key (id_of r)) (renewed_router (with_own r.db (id_of r) bytes r.tick seq) r))
+    → IsSoundRouter (flood_lsa full (own_key (id_of r)) (renewed_router (with_own r.db (id_of r) bytes r.tick seq) r))
 renewed_by None full bytes r there few sound = absurd cc
 renewed_by (Some seq) full bytes r there few sound =
     let k : Kept = fresh (own_lsa (id_of r) seq bytes) r.tick false false in
     sound-flooded_own full k r (sound-renewed_router k r (sound-own (id_of r) seq r.tick bytes few) sound)
 
-sound-renewed : (full : ℕ) (bytes : List ℕ) (r : Router) → has_next (kept_at r.db (own_key (id_of r))) ≡ true → length bytes ≤ 1000 → IsSoundRouter r → IsSoundRouter (renewed full bytes r)
-unfolding renewed renewed_router
-sound-renewed full bytes r there few sound = renewed_by (seq_after (kept_at r.db (own_key (id_of r)))) full bytes r there few sound
+sound-originate_own_lsa : (full : ℕ) (bytes : List ℕ) (r : Router) → has_next_sequence_number (kept_at r.db (own_key (id_of r))) ≡ true → length bytes ≤ 1000 → IsSoundRouter r → IsSoundRouter (originate_own_lsa full bytes r)
+unfolding originate_own_lsa renewed_router
+sound-originate_own_lsa full bytes r there few sound = renewed_by (next_sequence_number (kept_at r.db (own_key (id_of r)))) full bytes r there few sound
 
-sound-advertised : (ports : ℕ) (r : Router) → IsSoundRouter r → IsSoundRouter (advertised ports r)
-unfolding advertised
-sound-advertised ports r sound =
+sound-originate_if_needed : (ports : ℕ) (r : Router) → IsSoundRouter r → IsSoundRouter (originate_if_needed ports r)
+unfolding originate_if_needed
+sound-originate_if_needed ports r sound =
     let own = kept_at r.db (own_key (id_of r)) in
     let wanted = wanted_body ports r in
     let full = full_mask ports r.interfaces in
-    choose IsSoundRouter (may_originate r.tick r.originated && is_outdated r.tick wanted own && has_next own) (renewed full wanted r) r
-    (λ h. sound-renewed full wanted r (and_right (may_originate r.tick r.originated && is_outdated r.tick wanted own) (has_next own) h) (few_wanted ports r sound) sound)
+    choose IsSoundRouter (may_originate r.tick r.originated && is_outdated r.tick wanted own && has_next_sequence_number own) (originate_own_lsa full wanted r) r
+    (λ h. sound-originate_own_lsa full wanted r (and_right (may_originate r.tick r.originated && is_outdated r.tick wanted own) (has_next_sequence_number own) h) (few_wanted ports r sound) sound)
     (λ _. sound)
 
 -- a database beside these lists
@@ -214,18 +214,18 @@ record IsLeft (own : LsaKey) (ls : OnPorts) (d : Database) : Type 0 where
   database : IsSoundDatabase own d
   listed : AllByRecursion (IsSoundList d) ls
 
-left_one : (own : LsaKey) (a : AtPorts) (d : Database) (key : LsaKey) → IsLeft own a.lists d → IsLeft own a.lists (removed_one a d key)
+left_one : (own : LsaKey) (a : AtPorts) (d : Database) (key : LsaKey) → IsLeft own a.lists d → IsLeft own a.lists (remove_max_age_lsa a d key)
 unfolding is_listed
 left_one own a d key sound =
     choose (IsLeft own a.lists) (is_listed key a) d (without d key) (λ _. sound)
     (λ away. record { database = sound-without own key d sound.database; listed = lists_left d key a.lists away sound.listed })
 
-sound-removed : (r : Router) → IsSoundRouter r → IsSoundRouter (removed r)
-unfolding removed
-sound-removed r sound =
+sound-remove_max_age_lsas : (r : Router) → IsSoundRouter r → IsSoundRouter (remove_max_age_lsas r)
+unfolding remove_max_age_lsas
+sound-remove_max_age_lsas r sound =
     let own = own_key (id_of r) in
-    let left : IsLeft own r.interfaces.lists (fold (removed_one r.interfaces) r.db (gone r.tick r.db)) =
-    folded (IsLeft own r.interfaces.lists) (removed_one r.interfaces) (left_one own r.interfaces) (gone r.tick r.db) r.db (record { database = sound.database; listed = sound.listed }) in
+    let left : IsLeft own r.interfaces.lists (fold (remove_max_age_lsa r.interfaces) r.db (max_age_lsas r.tick r.db)) =
+    folded (IsLeft own r.interfaces.lists) (remove_max_age_lsa r.interfaces) (left_one own r.interfaces) (max_age_lsas r.tick r.db) r.db (record { database = sound.database; listed = sound.listed }) in
     record {
       tick = sound.tick;
       networks = sound.networks;
@@ -235,17 +235,17 @@ sound-removed r sound =
       listed = left.listed;
     }
 
-sound-finished : (ports : ℕ) (r : Router) → IsSoundRouter r → IsSoundRouter (finished ports r)
-unfolding finished
-sound-finished ports r sound = sound-removed (advertised ports r) (sound-advertised ports r sound)
+sound-finish_step : (ports : ℕ) (r : Router) → IsSoundRouter r → IsSoundRouter (finish_step ports r)
+unfolding finish_step
+sound-finish_step ports r sound = sound-remove_max_age_lsas (originate_if_needed ports r) (sound-originate_if_needed ports r sound)
 
 -- ---- a step
 
 sound-port_down : (port : ℕ) (r : Router) → IsSoundRouter r → IsSoundRouter (port_down port r)
 unfolding port_down
 sound-port_down port r sound =
-    choose IsSoundRouter (has_port r.interfaces port) (record r { interfaces = lowered port r.interfaces }) r
-    (λ _. sound-at (lowered port r.interfaces) r (at-lowered r.db port r.interfaces (at_of r sound)) sound) (λ _. sound)
+    choose IsSoundRouter (has_port r.interfaces port) (record r { interfaces = neighbour_down port r.interfaces }) r
+    (λ _. sound-at (neighbour_down port r.interfaces) r (at-neighbour_down r.db port r.interfaces (at_of r sound)) sound) (λ _. sound)
 
 networks_router : Networks → Router → Router
 networks_router ns r = record r { prefixes = ns }
@@ -270,13 +270,13 @@ sound-handled ports (input.Tick group) r bytes here sound = sound-ticked ports g
 sound-handled ports (input.Cmd body) r bytes here sound = sound-networks (commanded body r.prefixes) r (sound-commanded body r.prefixes sound.networks) sound
 sound-handled ports (input.Down port) r bytes here sound = sound-port_down port r sound
 sound-handled ports (input.Up port) r bytes here sound = sound
-sound-handled ports (input.Msg port body) r bytes here sound = sound-message ports port body r bytes sound
+sound-handled ports (input.Msg port body) r bytes here sound = sound-receive_message ports port body r bytes sound
 
 sound-next : (ports : ℕ) (i : Input) (r : Router) → HasBytes i → IsSoundRouter r → IsSoundRouter (next ports i r)
 unfolding next stepped
 sound-next ports i r bytes sound =
-    choose IsSoundRouter (is_passed_over r.tick i) r (finished ports (handled ports i r)) (λ _. sound)
-    (λ here. sound-finished ports (handled ports i r) (sound-handled ports i r bytes here sound))
+    choose IsSoundRouter (is_passed_over r.tick i) r (finish_step ports (handled ports i r)) (λ _. sound)
+    (λ here. sound-finish_step ports (handled ports i r) (sound-handled ports i r bytes here sound))
 
 pub sound-step : (s : OspfState) (ports : ℕ) (i : Input) → HasBytes i → IsSoundState s → IsSoundState (ospf_after s ports i)
 unfolding ospf_after

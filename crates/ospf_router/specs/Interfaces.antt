@@ -4,7 +4,7 @@ use Rattle.std.specs.Prelude.{◌+◌, ◌&&◌, ℕ, Bool, nat_lt, if◌then◌
 use Rattle.std.specs.List.{list_any}
 use Rattle.dn_guest.specs.Ports.{is_up, with_up}
 use Rattle.ospf_lsdb.specs.declared.key.LsaKey.{LsaKey}
-use Rattle.ospf_flood.specs.Lists.{OnPort, OnPorts, list_of, off, tick_of, with_tick}
+use Rattle.ospf_flood.specs.Retransmission.{OnPort, OnPorts, list_of, without_lsa, last_sent, with_lsa}
 use Rattle.ospf_router.specs.declared.neighbour.Neighbour.{Neighbour}
 use Rattle.ospf_router.specs.declared.neighbour.Neighbour.TheVariants.{Down}
 use Rattle.ospf_router.specs.declared.interfaces.Port.{Port}
@@ -44,21 +44,21 @@ with_neighbour p n a = record a { ports = slice_set a.ports p (record (port_at a
 unfoldable pub emptied : ℕ → AtPorts → AtPorts
 emptied p a = record a { lists = slice_set a.lists p [] }
 
--- the neighbour goes Down, and the port's list is emptied
-unfoldable pub lowered : ℕ → AtPorts → AtPorts
-lowered p a = emptied p (with_neighbour p Down a)
+-- the neighbour goes Down, and the port's list is emptied (section 10.3)
+unfoldable pub neighbour_down : ℕ → AtPorts → AtPorts
+neighbour_down p a = emptied p (with_neighbour p Down a)
 
 -- the LSA stands on the port's list, last sent at this tick
 unfoldable pub listed : ℕ → LsaKey → ℕ → AtPorts → AtPorts
-listed p key tick a = record a { lists = slice_set a.lists p (with_tick (list_of a.lists p) key tick) }
+listed p key tick a = record a { lists = slice_set a.lists p (with_lsa (list_of a.lists p) key tick) }
 
 -- the LSA is off the port's list
 unfoldable pub unlisted : ℕ → LsaKey → AtPorts → AtPorts
-unlisted p key a = record a { lists = slice_set a.lists p (off key (list_of a.lists p)) }
+unlisted p key a = record a { lists = slice_set a.lists p (without_lsa key (list_of a.lists p)) }
 
 -- the LSA stands on some list
 unfoldable pub is_listed : LsaKey → AtPorts → Bool
-is_listed key a = list_any (λ (l : OnPort). is_some (tick_of l key)) a.lists
+is_listed key a = list_any (λ (l : OnPort). is_some (last_sent l key)) a.lists
 
 -- the mask of the up ports with a Full neighbour, from port p on
 abbrev pub full_from : ℕ → ℕ → List Port → ℕ

@@ -2,11 +2,11 @@ pub mod Neighbours
 pub mod Interfaces
 pub mod Prefixes
 pub mod State
-pub mod Updates
-pub mod Sending
+pub mod BuildUpdates
+pub mod Flooding
 pub mod Hellos
-pub mod Receiving
-pub mod Acknowledging
+pub mod ReceiveUpdate
+pub mod ReceiveAcknowledgement
 pub mod Ticks
 pub mod Origination
 pub mod Commands

@@ -1,5 +1,6 @@
 -- The neighbour at a port (RFC 2328 section 10): of its states the guest has Down, Init and Full.
 use Rattle.std.specs.Prelude.{◌+◌, ◌==◌, ℕ, Bool, true, false, not, nat_le, List, [], ◌∷◌}
+use Rattle.ospf_wire.specs.Constants.{RouterDeadInterval}
 use Rattle.ospf_router.specs.declared.neighbour.Heard.{Heard}
 use Rattle.ospf_router.specs.declared.neighbour.Neighbour.{Neighbour}
 use Rattle.ospf_router.specs.declared.neighbour.Neighbour.TheVariants.{Down, Init, Full}
@@ -27,11 +28,11 @@ is_other id Down = false
 is_other id (Init h) = not (h.id == id)
 is_other id (Full h) = not (h.id == id)
 
--- it isn't Down, and was last heard 40 or more ticks ago (RouterDeadInterval, appendix C.3)
+-- it isn't Down, and was last heard RouterDeadInterval or more ticks ago (section 10.2, InactivityTimer)
 abbrev pub is_dead : ℕ → Neighbour → Bool
 is_dead now Down = false
-is_dead now (Init h) = nat_le (h.tick + 40) now
-is_dead now (Full h) = nat_le (h.tick + 40) now
+is_dead now (Init h) = nat_le (h.tick + RouterDeadInterval) now
+is_dead now (Full h) = nat_le (h.tick + RouterDeadInterval) now
 
 -- heard now from this id
 abbrev pub heard_now : ℕ → ℕ → Heard

@@ -18,10 +18,6 @@ Networks = List (Network × ℕ)
 abbrev pub network_cmp : Network → Network → Ordering
 network_cmp a b = ordering_then (nat_cmp a.0 b.0) (nat_cmp a.1 b.1)
 
--- the contiguous mask of a length: so many ones, and zeros behind them
-abbrev pub mask_of : ℕ → ℕ
-mask_of len = 2 ^ 32 - 2 ^ (32 - len)
-
 -- the address has no bits past the length, which is at most 32
 abbrev pub is_network : ℕ → ℕ → Bool
 is_network address len = nat_le len 32 && address % 2 ^ (32 - len) == 0

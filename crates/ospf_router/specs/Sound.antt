@@ -9,11 +9,11 @@ use Rattle.ospf_lsdb.specs.declared.key.LsaKey.{LsaKey}
 use Rattle.ospf_lsdb.specs.declared.kept.Kept.{Kept}
 use Rattle.ospf_lsdb.specs.Keys.{key_cmp, key_of, own_key}
 use Rattle.ospf_lsdb.specs.Database.{Database, kept_at}
-use Rattle.ospf_flood.specs.Lists.{OnPort}
+use Rattle.ospf_flood.specs.Retransmission.{OnPort}
 use Rattle.ospf_router.specs.Prefixes.{Networks, network_cmp}
 use Rattle.ospf_router.specs.State.{OspfState}
 use Rattle.ospf_router.specs.Step.{ospf_after}
-use Rattle.ospf_router.specs.Updates.{is_sendable}
+use Rattle.ospf_router.specs.BuildUpdates.{is_sendable}
 
 -- An LSA stands at its own name, its length is that of its bytes and leaves room for the packet around it, and it was
 -- last sent at a tick that a router has.

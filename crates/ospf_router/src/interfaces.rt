@@ -2,16 +2,15 @@
 //! (RFC 2328 sections 9 and 10).
 
 ghost use Rattle.std.specs.Prelude.{◌≡◌, ◌↔◌, ◌+◌, ◌≤◌, ◌<◌, IsTrue, IfOk, OnOk, length, map};
-ghost use Rattle.dn_guest.specs.Ports.{with_up};
-ghost use Rattle.ospf_flood.specs.Lists.{due, list_of, off_all};
+ghost use Rattle.ospf_flood.specs.Retransmission.{due, list_of, without_lsa_anywhere};
 ghost use Rattle.ospf_flood.specs.Flooding.{flooded, state};
-ghost use Rattle.ospf_flood.specs.Table.{verdict_of};
+ghost use Rattle.ospf_flood.specs.Verdicts.{verdict_of};
 ghost use Rattle.ospf_flood.specs.Receiving.{received, step_of};
-ghost use Rattle.ospf_router.specs.Interfaces.{emptied, full_from, full_mask, has_port, is_listed, listed, lowered, neighbour_at, opening_port, opening_ports, port_at, unlisted, with_neighbour};
+ghost use Rattle.ospf_router.specs.Interfaces.{emptied, full_from, full_mask, has_port, is_listed, listed, neighbour_down, neighbour_at, opening_port, opening_ports, port_at, unlisted, with_neighbour};
 
 use crate::neighbour::Neighbour;
 use dn_guest::is_up;
-use ospf_flood::{Lists, Step, flood, receive};
+use ospf_flood::{Lists, Step, flood, receive, with_port};
 use ospf_lsdb::{LsaKey, Lsdb};
 use ospf_wire::Lsa;
 use std::alloc::{AllocError, Global};
@@ -66,20 +65,9 @@ fn full_from(port: u8, up: u16, ports: &[Port]) -> u16
     };
     let mask = full_from(port + 1, up, rest);
     if is_up(up, port) && first.neighbour.is_full() {
-        with_up(mask, port)
+        with_port(mask, port)
     } else {
         mask
-    }
-}
-
-/// The mask with the port's bit set.
-fn with_up(ports: u16, port: u8) -> u16
-    ensures { result ≡ with_up ports port }
-{
-    if port < 16 {
-        ports | (1 << port)
-    } else {
-        ports
     }
 }
 
@@ -171,11 +159,12 @@ impl Interfaces {
         self.lists.empty(port);
     }
 
-    /// The neighbour at a port goes Down, and its list is emptied.
-    #[tactic(auto, unfolding(crate::specs::Interfaces::lowered))]
-    pub fn lower(&mut self, port: u8)
+    /// The neighbour at a port goes Down, and its list is emptied (RFC 2328 section 10.3: LLDown and
+    /// InactivityTimer).
+    #[tactic(auto, unfolding(crate::specs::Interfaces::neighbour_down))]
+    pub fn neighbour_down(&mut self, port: u8)
         requires { port < length self.old.ports }
-        ensures state { self.new ≡ lowered port self.old }
+        ensures state { self.new ≡ neighbour_down port self.old }
         ensures count { length self.new.ports ≡ length self.old.ports }
     {
         self.set_neighbour(port, Neighbour::Down);
@@ -204,7 +193,7 @@ impl Interfaces {
 
     /// Takes an LSA off all lists.
     pub fn unlist_all(&mut self, key: &LsaKey)
-        ensures { self.new ≡ record self.old { lists = off_all key.now self.old.lists } }
+        ensures { self.new ≡ record self.old { lists = without_lsa_anywhere key.now self.old.lists } }
     {
         self.lists.take_all(key);
     }
@@ -222,7 +211,7 @@ impl Interfaces {
         false
     }
 
-    /// The LSAs that are to be sent again on a port, in ascending order.
+    /// The LSAs that are to be sent again on a port, in ascending order (RFC 2328 section 13.6).
     pub fn due(&self, port: u8, now: u32) -> Result<Vec<LsaKey>, AllocError>
         requires { port < length self.now.ports }
         ensures { IfOk result (λ keys. keys.items ≡ due now (list_of self.now.lists port)) }
@@ -247,7 +236,8 @@ impl Interfaces {
         now: u32,
     ) -> Result<(), AllocError>
         ensures database { OnOk result (db.new ≡ (flooded mask key now (state db.old self.old.lists)).db) }
-        ensures lists { OnOk result (self.new ≡ record self.old { lists = (flooded mask key now (state db.old self.old.lists)).lists }) }
+        ensures lists { OnOk result (self.new
+            ≡ record self.old { lists = (flooded mask key now (state db.old self.old.lists)).lists }) }
     {
         flood(db, &mut self.lists, mask, key, now)
     }
@@ -264,9 +254,12 @@ impl Interfaces {
     ) -> Result<Step, AllocError>
         requires port { from < length self.old.ports }
         requires length { lsa.now.head.length ≡ 20 + length lsa.now.body }
-        ensures step { IfOk result (λ step. step ≡ step_of (verdict_of db.old (list_of self.old.lists from) lsa.now now) lsa.now own) }
-        ensures database { OnOk result (db.new ≡ (received (state db.old self.old.lists) full from lsa.now own now).db) }
-        ensures lists { OnOk result (self.new ≡ record self.old { lists = (received (state db.old self.old.lists) full from lsa.now own now).lists }) }
+        ensures step { IfOk result (λ step. step
+            ≡ step_of (verdict_of db.old (list_of self.old.lists from) lsa.now now) lsa.now own) }
+        ensures database { OnOk result (db.new
+            ≡ (received (state db.old self.old.lists) full from lsa.now own now).db) }
+        ensures lists { OnOk result (self.new
+            ≡ record self.old { lists = (received (state db.old self.old.lists) full from lsa.now own now).lists }) }
     {
         receive(db, &mut self.lists, full, from, lsa, own, now)
     }

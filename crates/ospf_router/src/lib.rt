@@ -9,13 +9,13 @@
 //! | `interfaces.rt` | costs, neighbours and retransmission lists, port by port |
 //! | `prefixes.rt` | the router's own networks |
 //! | `router.rt` | `Router`, a router in the middle of a step: its state, and what it has put out |
-//! | `updates.rt` | Link State Updates as they are sent: one LSA, or as many as go into 1,400 bytes |
-//! | `sending.rt` | what is flooded, and what is sent to one neighbour |
+//! | `build_updates.rt` | Link State Updates as they are sent: one LSA, or as many as go into 1,400 bytes |
+//! | `flooding.rt` | what is flooded, and what is sent to one neighbour |
 //! | `hello.rt` | Hellos, sent and received |
-//! | `update.rt` | an Update that comes |
-//! | `ack.rt` | an Acknowledgement that comes |
+//! | `receive_update.rt` | an Update that comes |
+//! | `receive_acknowledgement.rt` | an Acknowledgement that comes |
 //! | `tick.rt` | a tick: silent neighbours, aging, Hellos, retransmission |
-//! | `originate.rt` | the end of a step: the router's own LSA, and LSAs that are gone |
+//! | `origination.rt` | the end of a step: the router's own LSA, and LSAs that are gone |
 //! | `command.rt` | commands, which set and take away own networks |
 //! | `step.rt` | the step by cases on the input |
 //! | `laws.rt` | what holds of every state that a router reaches |
@@ -24,21 +24,21 @@
 //! any bytes. What it puts out stands in the router's `out`.
 #![tactic(auto)]
 
-mod ack;
+mod build_updates;
 mod command;
+mod flooding;
 mod hello;
 mod interfaces;
 mod laws;
 mod neighbour;
-mod originate;
+mod origination;
 mod prefixes;
+mod receive_acknowledgement;
+mod receive_update;
 mod router;
-mod sending;
 mod settings;
 mod step;
 mod tick;
-mod update;
-mod updates;
 
 pub use interfaces::{Interfaces, Port};
 pub use laws::{sound_parts, sound_states, sound_states_are_plain};

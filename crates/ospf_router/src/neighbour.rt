@@ -2,11 +2,10 @@
 
 ghost use Rattle.std.specs.Prelude.{◌≡◌, ◌+◌, IfOk, nat_le};
 ghost use Rattle.ospf_router.specs.Neighbours.{heard_now, ids, is_dead, is_full, is_full_of, is_other};
+ghost use Rattle.ospf_wire.specs.Constants.{RouterDeadInterval};
 
+use ospf_wire::ROUTER_DEAD_INTERVAL;
 use std::alloc::{AllocError, Global};
-
-/// How many ticks after it was last heard a neighbour is down (RFC 2328 appendix C.3, RouterDeadInterval).
-pub const DEAD_INTERVAL: u16 = 40;
 
 /// From whom a Hello came, and when.
 #[derive(Clone, Copy, Debug, PartialEq, Eq)]
@@ -20,11 +19,12 @@ pub struct Heard {
 /// What is known of the router at the other end of a port.
 #[derive(Clone, Copy, Debug, PartialEq, Eq)]
 pub enum Neighbour {
-    /// Nothing was heard lately.
+    /// Nothing was heard lately (RFC 2328 section 10.1).
     Down,
-    /// It is heard, and doesn't list this router.
+    /// It is heard, and doesn't list this router (RFC 2328 section 10.1).
     Init(Heard),
-    /// It is heard and lists this router, and the database was sent to it.
+    /// It is heard and lists this router, and the database was sent to it (RFC 2328 section 10.1; this
+    /// profile has no states between).
     Full(Heard),
 }
 
@@ -38,9 +38,9 @@ impl Heard {
 
     /// Whether it was heard so long ago that the neighbour is down.
     fn is_past(self, now: u16) -> bool
-        ensures { result ≡ nat_le (self.tick + 40) now }
+        ensures { result ≡ nat_le (self.tick + RouterDeadInterval) now }
     {
-        u32::from(self.tick) + u32::from(DEAD_INTERVAL) <= u32::from(now)
+        u32::from(self.tick) + u32::from(ROUTER_DEAD_INTERVAL) <= u32::from(now)
     }
 }
 
@@ -75,7 +75,8 @@ impl Neighbour {
         }
     }
 
-    /// Whether it isn't Down and was last heard 40 or more ticks ago.
+    /// Whether it isn't Down and was last heard RouterDeadInterval or more ticks ago (RFC 2328 section 10.2,
+    /// InactivityTimer).
     pub fn is_dead(self, now: u16) -> bool
         ensures { result ≡ is_dead now self }
     {

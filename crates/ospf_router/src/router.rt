@@ -41,7 +41,8 @@ impl Router {
     /// A router that begins with these settings, which have at most 16 ports.
     pub fn new(alloc: Global, settings: &OspfSettings) -> Result<Router, AllocError>
         requires { length settings.now.costs ≤ 16 }
-        ensures { IfOk result (λ made. made ≡ router_of (opening settings.now.number settings.now.costs settings.now.prefixes)) }
+        ensures { IfOk result (λ made. made
+            ≡ router_of (opening settings.now.number settings.now.costs settings.now.prefixes)) }
     {
         Ok(Router {
             number: settings.number,
@@ -79,7 +80,8 @@ impl Router {
 
     /// Whether both have the same number and the same ticks.
     fn same_ticks(&self, other: &Router) -> bool
-        ensures { IsTrue result ↔ ((self.now.number ≡ other.now.number) × (self.now.tick ≡ other.now.tick) × (self.now.originated ≡ other.now.originated)) }
+        ensures { IsTrue result ↔ ((self.now.number ≡ other.now.number) × (self.now.tick
+            ≡ other.now.tick) × (self.now.originated ≡ other.now.originated)) }
     {
         self.number == other.number
             && self.tick == other.tick

@@ -4,19 +4,19 @@
 
 ghost use Rattle.std.specs.Prelude.{◌≡◌, ◌<◌, OnOk, false, length};
 ghost use Rattle.ospf_wire.specs.Packets.{IsEncodable};
-ghost use Rattle.ospf_router.specs.Step.{IsTaken, body_taken, handled, is_from_full, is_passed_over, message, next, port_down, stepped};
+ghost use Rattle.ospf_router.specs.Step.{IsTaken, receive_body, handled, is_from_full, is_passed_over, receive_message, next, port_down, stepped};
 
 use crate::command::command;
 use crate::router::Router;
 use dn_guest::Input;
-use ospf_wire::{Body, Packet, decode};
+use ospf_wire::{BACKBONE, Body, Packet, decode};
 use std::alloc::{AllocError, Global};
 
 /// The last tick that is taken.
 const LAST_TICK: u32 = 65_535;
 
 impl Router {
-    /// Whether a packet of this router id is from the Full neighbour at the port.
+    /// Whether a packet of this router id is from the Full neighbour at the port (RFC 2328 section 8.2).
     fn is_from_full(&self, port: u8, from: u32) -> bool
         requires { port < length self.now.interfaces.ports }
         ensures { result ≡ is_from_full port from self.now }
@@ -24,9 +24,9 @@ impl Router {
         self.interfaces.neighbour(port).is_full_of(from)
     }
 
-    /// The body of a packet of area 0 that comes on a port, by its type.
-    #[tactic(auto, unfolding(crate::specs::Step::body_taken))]
-    fn take_body(
+    /// The body of a packet of area 0 that comes on a port, by its type (RFC 2328 section 8.2).
+    #[tactic(auto, unfolding(crate::specs::Step::receive_body))]
+    fn receive_body(
         &mut self,
         alloc: Global,
         ports: u16,
@@ -35,53 +35,58 @@ impl Router {
     ) -> Result<(), AllocError>
         requires port { port < length self.old.interfaces.ports }
         requires lengths { IsEncodable packet.now }
-        ensures { OnOk result (self.new ≡ body_taken ports port packet.now.router packet.now.body self.old) }
+        ensures { OnOk result (self.new ≡ receive_body ports port packet.now.router packet.now.body self.old) }
     {
         let from = packet.router;
+        // RFC 2328 section 8.2, the last paragraph: a Hello counts from any router, other packets from a
+        // neighbour alone; section 13: from a Full one (this profile has no states between).
         match &packet.body {
-            Body::Hello(hello) => self.hear(alloc, port, from, hello)?,
+            Body::Hello(hello) => self.receive_hello(alloc, port, from, hello)?,
             Body::Update(lsas) if self.is_from_full(port, from) => {
                 let full = self.interfaces.full_mask(ports);
-                self.update(alloc, full, port, lsas.as_slice())?
+                self.receive_update(alloc, full, port, lsas.as_slice())?
             }
             Body::Ack(heads) if self.is_from_full(port, from) => {
-                self.acknowledge(port, heads.as_slice())
+                self.receive_acknowledgement(port, heads.as_slice())
             }
             Body::Update(_) | Body::Ack(_) => {}
         }
         Ok(())
     }
 
-    /// A message on a port.
-    #[tactic(auto, unfolding(crate::specs::Step::message))]
-    fn message(
+    /// A message on a port (RFC 2328 section 8.2).
+    #[tactic(auto, unfolding(crate::specs::Step::receive_message))]
+    fn receive_message(
         &mut self,
         alloc: Global,
         ports: u16,
         port: u8,
         bytes: &[u8],
     ) -> Result<(), AllocError>
-        ensures { OnOk result (self.new ≡ message ports port bytes.now self.old) }
+        ensures { OnOk result (self.new ≡ receive_message ports port bytes.now self.old) }
     {
         if !self.interfaces.has_port(port) {
             return Ok(());
         }
+        // RFC 2328 section 8.2: the OSPF header, by the grammar of packets.
         let Some(packet) = decode(alloc, bytes)? else {
             return Ok(());
         };
-        if packet.area != 0 {
+        // RFC 2328 section 8.2, the area id, test (1); this profile: area 0 alone.
+        if packet.area != BACKBONE {
             return Ok(());
         }
-        self.take_body(alloc, ports, port, &packet)
+        self.receive_body(alloc, ports, port, &packet)
     }
 
-    /// The neighbour at a port that goes down is Down.
+    /// The neighbour at a port that goes down is Down (RFC 2328 section 9.3, InterfaceDown, and section 10.3,
+    /// LLDown).
     #[tactic(auto, unfolding(crate::specs::Step::port_down))]
     fn port_down(&mut self, port: u8)
         ensures { self.new ≡ port_down port self.old }
     {
         if self.interfaces.has_port(port) {
-            self.interfaces.lower(port);
+            self.interfaces.neighbour_down(port);
         }
     }
 
@@ -95,8 +100,10 @@ impl Router {
             Input::Tick(group) => self.tick(alloc, ports, *group as u16)?,
             Input::Cmd(body) => command(&mut self.prefixes, body.as_slice())?,
             Input::Down(port) => self.port_down(*port),
+            // RFC 2328 section 9.3, InterfaceUp; this profile: no Hello goes out before the next tick of
+            // Hellos.
             Input::Up(_) => {}
-            Input::Msg(port, bytes) => self.message(alloc, ports, *port, bytes.as_slice())?,
+            Input::Msg(port, bytes) => self.receive_message(alloc, ports, *port, bytes.as_slice())?,
         }
         Ok(())
     }
@@ -119,7 +126,7 @@ impl Router {
         ensures { OnOk result (self.new ≡ stepped ports input.now self.old) }
     {
         self.handle(alloc, ports, input)?;
-        self.finish(alloc, ports)
+        self.finish_step(alloc, ports)
     }
 
     /// A step: the state changes, and what is put out stands behind what stood in `out`. A tick before the

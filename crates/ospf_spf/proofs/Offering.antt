@@ -7,13 +7,13 @@ use Rattle.std.proofs.lemmas.List.Elements.{Contains-append_left, Contains-push,
 use Rattle.ospf_wire.specs.declared.router_lsa.RouterLink.{RouterLink}
 use Rattle.ospf_spf.specs.declared.graph.Vertex.{Vertex}
 use Rattle.ospf_spf.specs.declared.route.Route.{Route}
-use Rattle.ospf_spf.specs.Stubs.{mask_of}
+use Rattle.ospf_wire.specs.Masks.{network_mask}
 use Rattle.ospf_spf.specs.Offers.{IsOffer, AreOffers, links_at, AreOffered}
 
 none_in : {X : Type 0} (x : X) → Contains [] x → ⊥
 none_in x i = let k : i.0 < 0 = i.1 in omega arith
 
-mask_apart : (a b : ℕ) → a < b → b ≤ 32 → mask_of a ≡ mask_of b → ⊥
+mask_apart : (a b : ℕ) → a < b → b ≤ 32 → network_mask a ≡ network_mask b → ⊥
 mask_apart a b l h e =
     let k : 32 - b < 32 - a = omega arith in
     let p : 2 ^ (32 - b) < 2 ^ (32 - a) = pow-lt k in
@@ -21,7 +21,7 @@ mask_apart a b l h e =
     let q : 2 ^ (32 - a) ≤ 2 ^ 32 = pow_mono m in
     omega arith
 
-pub one_len : (a b : ℕ) → a ≤ 32 → b ≤ 32 → mask_of a ≡ mask_of b → a ≡ b
+pub one_len : (a b : ℕ) → a ≤ 32 → b ≤ 32 → network_mask a ≡ network_mask b → a ≡ b
 one_len a b ha hb e = elim (cases_order a b) [
   | inl q ↦ q
   | inr x ↦ elim x [

@@ -10,13 +10,13 @@ use Rattle.std.proofs.lemmas.Bool.{cases_eq, cases_lt, cases_Bool, eqb-true, eqb
 use Rattle.std.proofs.lemmas.List.Elements.{Contains-append_left, Contains-push, Contains-push_cases}
 use Rattle.ospf_spf.specs.declared.graph.Hop.{Hop}
 use Rattle.ospf_spf.specs.Search.{row, Onward, Walks, IsLeast, AreHops}
-use Rattle.ospf_spf.specs.Ports.{HasPort, Carries, IsPassed, IsViaFrom, AreVia, AreViaFrom}
+use Rattle.ospf_spf.specs.Ports.{HasPort, Carries, ArePassedOn, IsViaFrom, AreVia, AreViaFrom}
 
-pub passed_none : (cost : ℕ) (at_root : Bool) (ports : ℕ) (L : ℕ → Option ℕ) (ms : List ℕ) → IsPassed [] cost at_root ports L ms ms
+pub passed_none : (cost : ℕ) (at_root : Bool) (ports : ℕ) (L : ℕ → Option ℕ) (ms : List ℕ) → ArePassedOn [] cost at_root ports L ms ms
 passed_none cost at_root ports L ms w q l = (λ h. inl h, λ s. elim s [ inl h ↦ h | inr a ↦ absurd (let k : a.1.0 < 0 = a.1.1 in omega arith) ])
 
 -- a hop that adds nothing
-pub passed_skip : (rs : List Hop) (h : Hop) (cost : ℕ) (at_root : Bool) (ports : ℕ) (L : ℕ → Option ℕ) (ms ns : List ℕ) → IsPassed rs cost at_root ports L ms ns → (L h.to ≡ Some (cost + h.metric) → ⊥) → IsPassed (rs ++ h ∷ []) cost at_root ports L ms ns
+pub passed_skip : (rs : List Hop) (h : Hop) (cost : ℕ) (at_root : Bool) (ports : ℕ) (L : ℕ → Option ℕ) (ms ns : List ℕ) → ArePassedOn rs cost at_root ports L ms ns → (L h.to ≡ Some (cost + h.metric) → ⊥) → ArePassedOn (rs ++ h ∷ []) cost at_root ports L ms ns
 passed_skip rs h cost at_root ports L ms ns p no_label w q l = (
   λ x. elim ((p w q l).0 x) [
     | inl o ↦ inl o
@@ -34,7 +34,7 @@ passed_skip rs h cost at_root ports L ms ns p no_label w q l = (
 )
 
 -- a hop that adds its ports
-pub passed_push : (rs : List Hop) (h : Hop) (cost : ℕ) (at_root : Bool) (ports : ℕ) (L : ℕ → Option ℕ) (ms ns os : List ℕ) → IsPassed rs cost at_root ports L ms ns → L h.to ≡ Some (cost + h.metric) → ((q : ℕ) → q < 16 → HasPort os h.to q ↔ (HasPort ns h.to q ⊎ Carries at_root ports h.port q)) → ((w : ℕ) → w ≢ h.to → get_or os w 0 ≡ get_or ns w 0) → IsPassed (rs ++ h ∷ []) cost at_root ports L ms os
+pub passed_push : (rs : List Hop) (h : Hop) (cost : ℕ) (at_root : Bool) (ports : ℕ) (L : ℕ → Option ℕ) (ms ns os : List ℕ) → ArePassedOn rs cost at_root ports L ms ns → L h.to ≡ Some (cost + h.metric) → ((q : ℕ) → q < 16 → HasPort os h.to q ↔ (HasPort ns h.to q ⊎ Carries at_root ports h.port q)) → ((w : ℕ) → w ≢ h.to → get_or os w 0 ≡ get_or ns w 0) → ArePassedOn (rs ++ h ∷ []) cost at_root ports L ms os
 passed_push rs h cost at_root ports L ms ns os p lab here others w q l = (
   λ x. elim (cases_eq w h.to) [
     | inl e ↦
@@ -168,7 +168,7 @@ module _ (H : List (Vec Hop)) (root : ℕ) (L : ℕ → Option ℕ) (order : Lis
       (λ h. absurd (let e : bit_at (get_or ms w 0) q ≡ 0 = ap (λ n. bit_at n q) (z w) ∙ bit_at-zero q in omega arith), λ v. absurd (let k : v.0 < 0 = v.4 in omega arith))
 
   -- one more vertex of the order
-  pub via_step : (i u cost ports : ℕ) (at_root : Bool) (ms ns : List ℕ) → i < length order → get_or order i 0 ≡ u → L u ≡ Some cost → at_root ≡ eqb u root → ports ≡ get_or ms u 0 → AreViaFrom H root L order i ms → IsPassed (row H u) cost at_root ports L ms ns → AreViaFrom H root L order (i + 1) ns
+  pub via_step : (i u cost ports : ℕ) (at_root : Bool) (ms ns : List ℕ) → i < length order → get_or order i 0 ≡ u → L u ≡ Some cost → at_root ≡ eqb u root → ports ≡ get_or ms u 0 → AreViaFrom H root L order i ms → ArePassedOn (row H u) cost at_root ports L ms ns → AreViaFrom H root L order (i + 1) ns
   via_step i u cost ports at_root ms ns il iu lu ar pm up p w q l = (
     λ x. elim ((p w q l).0 x) [
       | inl o ↦ (let v = (up w q l).0 o in let a : v.0 < i = v.4 in (v.0, v.1, v.2, v.3, (let b : v.0 < i + 1 = omega arith in b), v.5, v.6))

@@ -53,7 +53,7 @@ module _ (H : List (Vec Hop)) (root : ℕ) (L : ℕ → Option ℕ) (D E : ℕ �
       kept : (u a : ℕ) → E u ≡ true → L u ≡ Some a → M u ≡ Some a
       kept u a e l =
           let low = at_most u a e l in
-          let p = rel.lower u a l in
+          let p = rel.lower_cost u a l in
           let r : p.0 ≤ a = p.2 in
           elim (rel.origin u p.0 p.1) [
             | inl o ↦ (let z : Some p.0 ≡ Some a = sym o ∙ l in p.1 ∙ z)
@@ -78,7 +78,7 @@ module _ (H : List (Vec Hop)) (root : ℕ) (L : ℕ → Option ℕ) (D E : ℕ �
 
       start_now : M root ≡ Some 0
       start_now =
-          let p = rel.lower root 0 s.search.start in
+          let p = rel.lower_cost root 0 s.search.start in
           let r : p.0 ≤ 0 = p.2 in
           let z : p.0 ≡ 0 = omega arith in
           p.1 ∙ ap (λ k. Some k) z
@@ -114,7 +114,7 @@ module _ (H : List (Vec Hop)) (root : ℕ) (L : ℕ → Option ℕ) (D E : ℕ �
                 (p.0, p.1, omega arith))
             | inr ne ↦
                 (let o = s.search.relaxed u c h (sym (s.others u ne) ∙ e) l i in
-                let p = rel.lower h.to o.0 o.1 in
+                let p = rel.lower_cost h.to o.0 o.1 in
                 let q : o.0 ≤ c + h.metric = o.2 in
                 let r : p.0 ≤ o.0 = p.2 in
                 (p.0, p.1, omega arith))

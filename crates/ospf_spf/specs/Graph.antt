@@ -3,15 +3,16 @@ use Rattle.std.specs.Prelude.{◌≡◌, ◌<◌, ◌==◌, ◌&&◌, ℕ, Bool,
 use Rattle.std.specs.List.{Contains, filter_map}
 use Rattle.ospf_wire.specs.declared.router_lsa.RouterLink.{RouterLink}
 use Rattle.ospf_wire.specs.Reading.{router_links_at}
+use Rattle.ospf_wire.specs.Constants.{MaxAge, RouterLsaType}
 use Rattle.ospf_lsdb.specs.declared.key.LsaKey.{LsaKey}
 use Rattle.ospf_lsdb.specs.declared.kept.Kept.{Kept}
 use Rattle.ospf_lsdb.specs.Kept.{age_of}
 use Rattle.ospf_lsdb.specs.Database.{Database}
 use Rattle.ospf_spf.specs.declared.graph.Vertex.{Vertex}
 
--- whether an LSA is a router-LSA whose id is its advertising router, of an age below 3,600
+-- whether an LSA is a router-LSA whose id is its advertising router, of an age below MaxAge
 abbrev pub is_current : ℕ → LsaKey → Kept → Bool
-is_current now key k = key.kind == 1 && key.id == key.router && nat_lt (age_of now k) 3600
+is_current now key k = key.kind == RouterLsaType && key.id == key.router && nat_lt (age_of now k) MaxAge
 
 -- the router and its links, where such an LSA is well formed
 abbrev pub vertex_of : ℕ → LsaKey × Kept → Option Vertex

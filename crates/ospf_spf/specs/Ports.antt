@@ -19,8 +19,8 @@ Carries false ports port q = bit_at ports q ≡ 1
 abbrev pub Adds : List Hop → ℕ → Bool → ℕ → (ℕ → Option ℕ) → ℕ → ℕ → Type 0
 Adds rs cost at_root ports L w q = (h : Hop) × Contains rs h × (h.to ≡ w) × (L w ≡ Some (cost + h.metric)) × Carries at_root ports h.port q
 
-abbrev pub IsPassed : List Hop → ℕ → Bool → ℕ → (ℕ → Option ℕ) → List ℕ → List ℕ → Type 0
-IsPassed rs cost at_root ports L old new = (w q : ℕ) → q < 16 → HasPort new w q ↔ (HasPort old w q ⊎ Adds rs cost at_root ports L w q)
+abbrev pub ArePassedOn : List Hop → ℕ → Bool → ℕ → (ℕ → Option ℕ) → List ℕ → List ℕ → Type 0
+ArePassedOn rs cost at_root ports L old new = (w q : ℕ) → q < 16 → HasPort new w q ↔ (HasPort old w q ⊎ Adds rs cost at_root ports L w q)
 
 -- some least walk to w begins with the port q
 abbrev pub IsVia : List (Vec Hop) → ℕ → (ℕ → Option ℕ) → ℕ → ℕ → Type 0

@@ -16,9 +16,9 @@ abbrev pub flag : List Bool → ℕ → Bool
 flag xs v = slice_index_or xs v false
 
 -- a cost where there was a cost or none
-abbrev pub lowered : Option ℕ → ℕ → ℕ
-lowered None n = n
-lowered (Some o) n = min o n
+abbrev pub lesser_cost : Option ℕ → ℕ → ℕ
+lesser_cost None n = n
+lesser_cost (Some o) n = min o n
 
 -- by the cost, and then by the vertex
 abbrev pub pair_cmp : ℕ × ℕ → ℕ × ℕ → Ordering
@@ -41,7 +41,7 @@ AreSettled L D n = (v : ℕ) → D v ≡ true → (c : ℕ) × (L v ≡ Some c) 
 -- the costs L' come from L by the hops of a row, from a vertex at a cost
 pub record Relaxed (row : List Hop) (cost : ℕ) (L M : ℕ → Option ℕ) : Type 0 where
   pub origin : (w c : ℕ) → M w ≡ Some c → (L w ≡ Some c) ⊎ ((h : Hop) × Contains row h × (h.to ≡ w) × (c ≡ cost + h.metric))
-  pub lower : (w c : ℕ) → L w ≡ Some c → (b : ℕ) × (M w ≡ Some b) × (b ≤ c)
+  pub lower_cost : (w c : ℕ) → L w ≡ Some c → (b : ℕ) × (M w ≡ Some b) × (b ≤ c)
   pub reach : (h : Hop) → Contains row h → (b : ℕ) × (M h.to ≡ Some b) × (b ≤ cost + h.metric)
 
 -- the hops from a vertex

@@ -7,7 +7,8 @@ use Rattle.ospf_wire.specs.declared.router_lsa.RouterLink.{RouterLink}
 use Rattle.ospf_spf.specs.declared.graph.Vertex.{Vertex}
 use Rattle.ospf_spf.specs.declared.route.Route.{Route}
 use Rattle.ospf_spf.specs.Walks.{Edge, walk_cost}
-use Rattle.ospf_spf.specs.Stubs.{mask_of}
+use Rattle.ospf_wire.specs.Constants.{PointToPoint, StubNetwork}
+use Rattle.ospf_wire.specs.Masks.{network_mask}
 
 -- whether the router u has a link that passes
 abbrev pub any_link : List Vertex → ℕ → (RouterLink → Bool) → Bool
@@ -15,7 +16,7 @@ any_link g u test = list_any (λ v. v.id == u && list_any test v.links) g
 
 -- a point-to-point link to the router v, of a metric above 0
 abbrev pub leads : RouterLink → ℕ → Bool
-leads l v = l.kind == 1 && (nat_lt 0 l.metric && l.id == v)
+leads l v = l.kind == PointToPoint && (nat_lt 0 l.metric && l.id == v)
 
 -- the link of a router
 abbrev pub edge : ℕ → RouterLink → Edge
@@ -30,7 +31,8 @@ any_walk g (suc n) a test =
 
 -- a stub link to this network
 abbrev pub is_stub : RouterLink → ℕ → ℕ → Bool
-is_stub l prefix len = l.kind == 3 && (nat_le len 32 && (l.data == mask_of len && bit_and l.id l.data == prefix))
+is_stub l prefix len =
+    l.kind == StubNetwork && (nat_le len 32 && (l.data == network_mask len && bit_and l.id l.data == prefix))
 
 -- whether some walk that passes gives the network this cost. A walk has no more edges than its cost.
 abbrev pub is_given : List Vertex → ℕ → ℕ → ℕ → (List Edge → Bool) → ℕ → Bool

@@ -1,12 +1,13 @@
 -- Edges between vertices, and walks along them (RFC 2328 section 16.1, steps 2b and 2d).
 use Rattle.std.specs.Prelude.{◌≡◌, ℕ, ◌+◌, ◌<◌, List, [], ◌∷◌}
 use Rattle.ospf_wire.specs.declared.router_lsa.RouterLink.{RouterLink}
+use Rattle.ospf_wire.specs.Constants.{PointToPoint}
 use Rattle.ospf_spf.specs.declared.graph.Vertex.{Vertex}
 use Rattle.ospf_spf.specs.Graph.{HasLink}
 
 -- A point-to-point link (type 1) to the router v, of a metric above 0.
 pub record LeadsTo (l : RouterLink) (v : ℕ) : Type 0 where
-  pub kind : l.kind ≡ 1
+  pub kind : l.kind ≡ PointToPoint
   pub metric : 0 < l.metric
   pub to : l.id ≡ v
 

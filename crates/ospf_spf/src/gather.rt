@@ -9,7 +9,8 @@ use crate::route::Route;
 use std::alloc::{AllocError, Global};
 use std::collections::BTreeMap;
 
-/// Of two offers of a network the cheaper one; at one cost, both with their ports joined.
+/// Of two offers of a network the cheaper one; at one cost, both with their ports joined (RFC 2328 section
+/// 16.1, second stage, steps (1) and (2)).
 fn merge(old: &Route, new: &Route) -> Route
     requires prefix { old.now.prefix ≡ new.now.prefix }
     requires len { old.now.len ≡ new.now.len }

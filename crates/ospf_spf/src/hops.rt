@@ -10,7 +10,7 @@ ghost use Rattle.ospf_spf.specs.Walks.{LeadsTo};
 ghost use Rattle.ospf_spf.specs.Hops.{ids_of, AreRising, IsMarked, AreWays, IsHopOf, AreRow, AreHopsOf};
 
 use crate::graph::{Hop, Vertex};
-use ospf_wire::RouterLink;
+use ospf_wire::{POINT_TO_POINT, RouterLink};
 use std::alloc::{AllocError, Global};
 use std::collections::BTreeSet;
 
@@ -18,7 +18,8 @@ use std::collections::BTreeSet;
 fn leads(link: &RouterLink) -> bool
     ensures { IsTrue result ↔ LeadsTo link.now link.now.id }
 {
-    link.kind == 1 && link.metric > 0
+    // RFC 2328 section 16.1, step (2). This profile: point-to-point links alone, and a metric of 0 is no link.
+    link.kind == POINT_TO_POINT && link.metric > 0
 }
 
 /// The place of an id.
@@ -76,6 +77,7 @@ fn hop_of(from: u32, link: &RouterLink, ids: &[u32], ways: &BTreeSet<(u32, u32)>
     requires { AreRising ids.now }
     ensures { MatchOption result ((h : Hop) → IsHopOf from ids.now ways.now h link.now → ⊥) (λ h. IsHopOf from ids.now ways.now h link.now × (h.metric ≤ 65535)) }
 {
+    // RFC 2328 section 16.1, step (2)(b): the other end must link back.
     if !leads(link) || !ways.contains(&(link.id, from)) {
         return None;
     }

@@ -3,43 +3,36 @@
 
 ghost use Rattle.std.specs.Prelude.{◌≡◌, ℕ, ◌+◌, ◌-◌, ◌*◌, ◌^◌, ◌<◌, ◌≤◌, ◌≢◌, length, bit_and, IfOk, OnOk, MatchOption};
 ghost use Rattle.ospf_spf.specs.declared.route.Route.{Route};
-ghost use Rattle.ospf_spf.specs.Stubs.{mask_of};
+ghost use Rattle.ospf_wire.specs.Masks.{network_mask};
 ghost use Rattle.ospf_spf.specs.Search.{label};
 ghost use Rattle.ospf_spf.specs.Offers.{IsOffer, AreOffers, AreOffered};
 
 use crate::graph::Vertex;
 use crate::route::Route;
-use ospf_wire::RouterLink;
+use ospf_wire::{RouterLink, STUB_NETWORK, network_mask};
 use std::alloc::{AllocError, Global};
-
-/// The contiguous mask of this length.
-fn mask_with(len: u8) -> u32
-    requires { len ≤ 32 }
-    ensures { result ≡ mask_of len }
-{
-    (4294967296u64 - (1u64 << (32 - len))) as u32
-}
 
 /// The length of a contiguous mask.
 fn mask_len(mask: u32) -> Option<u8>
-    ensures { MatchOption result ((n : ℕ) → n ≤ 32 → mask ≢ mask_of n) (λ n. (n ≤ 32) × (mask ≡ mask_of n)) }
+    ensures { MatchOption result ((n : ℕ) → n ≤ 32 → mask ≢ network_mask n) (λ n. (n ≤ 32) × (mask ≡ network_mask n)) }
 {
     for len in 0..33 {
-        if mask == mask_with(len) {
+        if mask == network_mask(len) {
             return Some(len);
         }
     }
     None
 }
 
-/// The offer of a link, if it is a stub link.
+/// The offer of a link, if it is a stub link (RFC 2328 section 16.1, second stage, steps (1) and (2)).
 fn offer_of(link: &RouterLink, cost: u32, own: bool, via: u16) -> Option<Route>
     requires { cost + 65535 < 2 ^ 32 }
     ensures { MatchOption result ((r : Route) → IsOffer cost own via link.now r → ⊥) (λ r. IsOffer cost own via link.now r) }
 {
-    if link.kind != 3 {
+    if link.kind != STUB_NETWORK {
         return None;
     }
+    // This profile: a mask with a gap gives nothing.
     let len = mask_len(link.data)?;
     Some(Route {
         prefix: link.id & link.data,

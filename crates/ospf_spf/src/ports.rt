@@ -6,7 +6,7 @@ ghost use Rattle.std.specs.Prelude.{◌≡◌, ℕ, ◌+◌, ◌*◌, ◌^◌, �
 ghost use Rattle.std.specs.List.{All};
 ghost use Rattle.std.specs.Int.{bit_at};
 ghost use Rattle.ospf_spf.specs.Search.{label, AreHops, IsLeast};
-ghost use Rattle.ospf_spf.specs.Ports.{Carries, IsPassed, AreVia};
+ghost use Rattle.ospf_spf.specs.Ports.{Carries, ArePassedOn, AreVia};
 
 use crate::graph::Hop;
 use crate::search::Found;
@@ -27,15 +27,24 @@ fn port_bit(port: u32) -> u16
 fn carried(at_root: bool, ports: u16, port: u32) -> u16
     ensures { (q : ℕ) → q < 16 → (bit_at result q ≡ 1) ↔ Carries at_root ports port q }
 {
+    // RFC 2328 section 16.1.1: the root's own interface, else the next hops of the vertex.
     if at_root { port_bit(port) } else { ports }
 }
 
-/// Adds the ports of a vertex at a cost to each vertex that its hops reach at least cost.
-fn pass(row: &[Hop], cost: u32, at_root: bool, ports: u16, best: &[Option<u32>], masks: &mut [u16])
+/// Adds the ports of a vertex at a cost to each vertex that its hops reach at least cost (RFC 2328 section
+/// 16.1.1).
+fn pass_ports_on(
+    row: &[Hop],
+    cost: u32,
+    at_root: bool,
+    ports: u16,
+    best: &[Option<u32>],
+    masks: &mut [u16],
+)
     requires cost { cost + 65535 < 2 ^ 32 }
     requires row { All (λ h. h.to < length masks.old) row.now }
     requires best { length best.now ≡ length masks.old }
-    ensures { IsPassed row.now cost at_root ports (label best.now) masks.old masks.new }
+    ensures { ArePassedOn row.now cost at_root ports (label best.now) masks.old masks.new }
 {
     for hop in row {
         if let Some(least) = best[hop.to] {
@@ -65,7 +74,7 @@ pub fn first_ports(
         let vertex = *vertex;
         if let Some(cost) = found.best[vertex] {
             let ports = masks[vertex];
-            pass(
+            pass_ports_on(
                 &hops[vertex],
                 cost,
                 vertex == root,

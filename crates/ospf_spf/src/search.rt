@@ -5,14 +5,14 @@
 
 ghost use Rattle.std.specs.Prelude.{◌≡◌, ℕ, ◌+◌, ◌*◌, ◌^◌, ◌<◌, ◌≤◌, length, slice_set, slice_index_or, true, IfOk, OnOk};
 ghost use Rattle.std.specs.List.{All};
-ghost use Rattle.ospf_spf.specs.Search.{label, flag, lowered, IsExact, inside, Relaxed, AreSettled, AreHops, IsLeast};
+ghost use Rattle.ospf_spf.specs.Search.{label, flag, lesser_cost, IsExact, inside, Relaxed, AreSettled, AreHops, IsLeast};
 
 use crate::graph::Hop;
 use std::alloc::{AllocError, Global};
 use std::collections::BTreeSet;
 
-/// Gives a vertex a cost, if it had none or a greater one.
-fn lower(
+/// Gives a vertex a cost, if it had none or a greater one (RFC 2328 section 16.1, step (2)(d)).
+fn lower_cost(
     to: usize,
     new: u32,
     best: &mut [Option<u32>],
@@ -22,10 +22,11 @@ fn lower(
     requires within { to < length best.old }
     requires exact { IsExact (label best.old) (flag done.now) (inside todo.old) }
     requires settled { flag done.now to ≡ true → (c : ℕ) × (label best.old to ≡ Some c) × (c ≤ new) }
-    ensures best { OnOk result (best.new ≡ slice_set best.old to (Some (lowered (label best.old to) new))) }
+    ensures best { OnOk result (best.new ≡ slice_set best.old to (Some (lesser_cost (label best.old to) new))) }
     ensures exact { OnOk result (IsExact (label best.new) (flag done.now) (inside todo.new)) }
 {
     match best[to] {
+        // RFC 2328 section 16.1, step (2)(d): it is on the candidate list; a smaller cost is kept.
         Some(old) => {
             if new < old {
                 todo.remove(&(old, to));
@@ -33,6 +34,7 @@ fn lower(
                 best[to] = Some(new);
             }
         }
+        // Section 16.1, step (2)(d): it is not, and is added.
         None => {
             todo.insert((new, to))?;
             best[to] = Some(new);
@@ -41,7 +43,7 @@ fn lower(
     Ok(())
 }
 
-/// Lowers the costs of the vertices that the hops of a vertex lead to.
+/// Lowers the costs of the vertices that the hops of a vertex lead to (RFC 2328 section 16.1, step (2)).
 fn relax(
     row: &[Hop],
     cost: u32,
@@ -57,7 +59,7 @@ fn relax(
     ensures exact { OnOk result (IsExact (label best.new) (flag done.now) (inside todo.new)) }
 {
     for hop in row {
-        lower(hop.to, cost + u32::from(hop.metric), best, done, todo)?;
+        lower_cost(hop.to, cost + u32::from(hop.metric), best, done, todo)?;
     }
     Ok(())
 }
@@ -70,7 +72,7 @@ pub struct Found {
     pub order: Vec<usize>,
 }
 
-/// Finds the least costs from the root, a place.
+/// Finds the least costs from the root, a place (RFC 2328 section 16.1, steps (1) to (3)).
 pub fn least_costs(alloc: Global, hops: &[Vec<Hop>], root: usize) -> Result<Found, AllocError>
     requires size { length hops.now ≤ 65535 }
     requires root { root < length hops.now }
@@ -84,6 +86,7 @@ pub fn least_costs(alloc: Global, hops: &[Vec<Hop>], root: usize) -> Result<Foun
     let mut todo = BTreeSet::new(alloc);
     todo.insert((0, root))?;
     best[root] = Some(0);
+    // RFC 2328 section 16.1, step (3): the nearest candidate joins the tree.
     while let Some((cost, vertex)) = todo.pop_first() {
         done[vertex] = true;
         order.push(vertex)?;

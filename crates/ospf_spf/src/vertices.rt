@@ -7,14 +7,15 @@ ghost use Rattle.ospf_spf.specs.Graph.{is_current, vertex_of, graph_of, AreInOrd
 
 use crate::graph::Vertex;
 use ospf_lsdb::{Kept, LsaKey, Lsdb};
-use ospf_wire::{MAX_AGE, router_links};
+use ospf_wire::{MAX_AGE, ROUTER_LSA_TYPE, router_links};
 use std::alloc::{AllocError, Global};
 
-/// Whether an LSA is a router-LSA under its router's id that isn't too old.
+/// Whether an LSA is a router-LSA under its router's id that isn't too old (RFC 2328 section 16.1, step
+/// (2)(b)).
 fn is_current(now: u32, key: &LsaKey, kept: &Kept) -> bool
     ensures { result ≡ is_current now key.now kept.now }
 {
-    key.kind == 1 && key.id == key.router && kept.age(now) < MAX_AGE
+    key.kind == ROUTER_LSA_TYPE && key.id == key.router && kept.age(now) < MAX_AGE
 }
 
 /// The vertex of an LSA, if it is one.

@@ -14,7 +14,7 @@ use Rattle.ospf_wire.specs.declared.packet.Body.{Body}
 use Rattle.ospf_wire.specs.declared.packet.Body.TheVariants as body
 use Rattle.ospf_wire.specs.declared.packet.Packet.{Packet}
 use Rattle.ospf_wire.specs.Fields.{field}
-use Rattle.ospf_wire.specs.Lsas.{header_of, StandsAtFront, AreLsas}
+use Rattle.ospf_wire.specs.Lsas.{header_of, IsAtFront, AreLsas}
 use Rattle.ospf_wire.specs.Sums.{carried, packet_sum, packet_checksum}
 use Rattle.ospf_wire.specs.Packets.{kind_of, IsBody, HasHeader, IsPacket, IsEncodable, body_len, HaveLengths}
 use Rattle.ospf_wire.specs.Reading.{all_pieces, hello_at, update_at, body_at, has_header, packet_at}
@@ -133,7 +133,7 @@ is_read bytes found e p is = e ∙ packet_again bytes p is
 
 -- ---- what is read can be written
 
-lsa_len : (bytes : List ℕ) (l : Lsa) → StandsAtFront bytes l → l.head.length ≡ 20 + length l.body
+lsa_len : (bytes : List ℕ) (l : Lsa) → IsAtFront bytes l → l.head.length ≡ 20 + length l.body
 lsa_len bytes l stands =
     let body = ap length stands.body in
     omega (arith, stands.least, stands.fits, body, length-take (l.head.length - 20) (drop 20 bytes), length-drop 20 bytes)

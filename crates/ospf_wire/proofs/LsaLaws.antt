@@ -7,7 +7,7 @@ use Rattle.std.proofs.lemmas.List.{append-nil}
 use Rattle.ospf_wire.specs.declared.lsa.Lsa.{Lsa}
 use Rattle.ospf_wire.specs.declared.lsa.LsaHeader.{LsaHeader}
 use Rattle.ospf_wire.specs.Fields.{field}
-use Rattle.ospf_wire.specs.Lsas.{header_of, StandsAtFront, AreLsas}
+use Rattle.ospf_wire.specs.Lsas.{header_of, IsAtFront, AreLsas}
 use Rattle.ospf_wire.specs.Reading.{lsa_at, lsas_at, update_at}
 use Rattle.ospf_wire.proofs.Choices.{passed, mapped}
 use Rattle.ospf_wire.proofs.Fronts.{with_front, regroup}
@@ -49,7 +49,7 @@ abbrev lsa_of : LsaHeader → List ℕ → Lsa
 lsa_of h body = record { head = h; body = body }
 
 -- what is read stands at the front
-lsa_takes : (bytes : List ℕ) (l : Lsa) → lsa_at bytes ≡ Some l → StandsAtFront bytes l
+lsa_takes : (bytes : List ℕ) (l : Lsa) → lsa_at bytes ≡ Some l → IsAtFront bytes l
 unfolding lsa_at header_of
 lsa_takes bytes l e =
     let len = field 18 2 bytes in
@@ -57,19 +57,19 @@ lsa_takes bytes l e =
     let a = passed (ltb (length bytes) 20) (cond (ltb len 20 || ltb (length bytes) len) None (Some made)) l e in
     let b = passed (ltb len 20 || ltb (length bytes) len) (Some made) l a.1 in
     let tests = or_parts (ltb len 20) (ltb (length bytes) len) b.0 in
-    let stands : StandsAtFront bytes made = record {
+    let stands : IsAtFront bytes made = record {
       head = refl;
       least = ltb-false len 20 tests.0;
       fits = ltb-false (length bytes) len tests.1;
       body = refl;
     } in
-    subst (λ (x : Lsa). StandsAtFront bytes x) (same_Some made l b.1) stands
+    subst (λ (x : Lsa). IsAtFront bytes x) (same_Some made l b.1) stands
 
-same_lsa : (bytes : List ℕ) (l : Lsa) → StandsAtFront bytes l → l.head.length ≡ field 18 2 bytes → lsa_of (header_of bytes) (slice_range bytes 20 (field 18 2 bytes)) ≡ l
+same_lsa : (bytes : List ℕ) (l : Lsa) → IsAtFront bytes l → l.head.length ≡ field 18 2 bytes → lsa_of (header_of bytes) (slice_range bytes 20 (field 18 2 bytes)) ≡ l
 same_lsa bytes l stands len = rw (← len, ← stands.body, ← stands.head) refl
 
 -- what stands at the front is read
-lsa_again : (bytes : List ℕ) (l : Lsa) → StandsAtFront bytes l → lsa_at bytes ≡ Some l
+lsa_again : (bytes : List ℕ) (l : Lsa) → IsAtFront bytes l → lsa_at bytes ≡ Some l
 unfolding lsa_at header_of
 lsa_again bytes l stands =
     let len : l.head.length ≡ field 18 2 bytes = ap (λ h. h.length) stands.head in

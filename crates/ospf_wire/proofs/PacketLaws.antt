@@ -15,7 +15,7 @@ use Rattle.ospf_wire.specs.declared.packet.Body.TheVariants as body
 use Rattle.ospf_wire.specs.declared.packet.Packet.{Packet}
 use Rattle.ospf_wire.specs.Fields.{field, number}
 use Rattle.ospf_wire.specs.Pieces.{ArePieces}
-use Rattle.ospf_wire.specs.Lsas.{header_of, header_bytes, headers_bytes, lsa_bytes, lsas_bytes, update_bytes, StandsAtFront, AreLsas, FitsHeader}
+use Rattle.ospf_wire.specs.Lsas.{header_of, header_bytes, headers_bytes, lsa_bytes, lsas_bytes, update_bytes, IsAtFront, AreLsas, FitsHeader}
 use Rattle.ospf_wire.specs.Hellos.{fixed_bytes, ids_bytes, hello_bytes, IsHello, FitsHello, FitsWord}
 use Rattle.ospf_wire.specs.Sums.{carried, words, checksum, summed_bytes, packet_sum, packet_checksum}
 use Rattle.ospf_wire.specs.Packets.{kind_of, IsBody, HasHeader, IsPacket, body_bytes, header_text, summed_header, packet_bytes, body_len, IsEncodable, HaveLengths, HasFewLsas, FitsBody}
@@ -58,19 +58,19 @@ length-lsa_bytes : (l : Lsa) → length (lsa_bytes l) ≡ 20 + length l.body
 unfolding lsa_bytes
 length-lsa_bytes l = omega (arith, length-append (header_bytes l.head) l.body, length-header_bytes l.head)
 
-lsa_stands : (l : Lsa) (rest : List ℕ) → FitsHeader l.head → HasLength l → StandsAtFront (lsa_bytes l ++ rest) l
+lsa_stands : (l : Lsa) (rest : List ℕ) → FitsHeader l.head → HasLength l → IsAtFront (lsa_bytes l ++ rest) l
 unfolding lsa_bytes
 lsa_stands l rest fits len =
     let regrouped : (header_bytes l.head ++ l.body) ++ rest ≡ header_bytes l.head ++ (l.body ++ rest) = append_assoc (header_bytes l.head) l.body rest in
     let behind : drop 20 (header_bytes l.head ++ (l.body ++ rest)) ≡ l.body ++ rest = drop_at (header_bytes l.head) (l.body ++ rest) 20 (length-header_bytes l.head) in
     let body : take (l.head.length - 20) (l.body ++ rest) ≡ l.body = take_at l.body rest (l.head.length - 20) (omega arith) in
-    let stands : StandsAtFront (header_bytes l.head ++ (l.body ++ rest)) l = record {
+    let stands : IsAtFront (header_bytes l.head ++ (l.body ++ rest)) l = record {
       head = sym (header_again l.head (l.body ++ rest) fits);
       least = omega arith;
       fits = omega (arith, length-append (header_bytes l.head) (l.body ++ rest), length-header_bytes l.head, length-append l.body rest);
       body = sym (ap (take (l.head.length - 20)) behind ∙ body);
     } in
-    subst (λ (bytes : List ℕ). StandsAtFront bytes l) (sym regrouped) stands
+    subst (λ (bytes : List ℕ). IsAtFront bytes l) (sym regrouped) stands
 
 lsas_are : (ls : List Lsa) → AllByRecursion (λ l. FitsHeader l.head) ls → AllByRecursion HasLength ls → AreLsas (lsas_bytes ls) ls
 lsas_are [] fit lens = refl

@@ -18,7 +18,7 @@ header_of bytes = record {
 }
 
 -- This LSA stands at the front of these bytes: its header, and the rest of its length behind that.
-pub record StandsAtFront (bytes : List ℕ) (l : Lsa) : Type 0 where
+pub record IsAtFront (bytes : List ℕ) (l : Lsa) : Type 0 where
   pub head : l.head ≡ header_of bytes
   pub least : 20 ≤ l.head.length
   pub fits : l.head.length ≤ length bytes
@@ -27,7 +27,7 @@ pub record StandsAtFront (bytes : List ℕ) (l : Lsa) : Type 0 where
 -- the bytes are these LSAs, one behind the other
 abbrev pub AreLsas : List ℕ → List Lsa → Type 0
 AreLsas bytes [] = bytes ≡ []
-AreLsas bytes (l ∷ ls) = StandsAtFront bytes l × AreLsas (drop l.head.length bytes) ls
+AreLsas bytes (l ∷ ls) = IsAtFront bytes l × AreLsas (drop l.head.length bytes) ls
 
 -- the 20 bytes of a header
 unfoldable pub header_bytes : LsaHeader → List ℕ

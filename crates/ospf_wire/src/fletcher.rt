@@ -3,8 +3,8 @@
 ghost use Rattle.std.specs.Prelude.{◌≡◌, ◌↔◌, ◌+◌, ◌*◌, ◌≤◌, ◌<◌, ◌^◌, ◌%◌, IsTrue, length, sum};
 ghost use Rattle.ospf_wire.specs.Fletcher.{weighted, checked_bytes, IsChecked, AreCheckBytes, check_byte, ls_checksum, with_sum};
 
+use crate::fields::bytes_from;
 use crate::lsa::header_bytes;
-use crate::numbers::bytes_from;
 use crate::{Lsa, LsaHeader};
 
 /// The two sums of some bytes.

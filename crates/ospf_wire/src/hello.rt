@@ -6,7 +6,7 @@ ghost use Rattle.ospf_wire.specs.Hellos.{fixed_bytes, hello_bytes, ids_bytes, Fi
 ghost use Rattle.ospf_wire.specs.Reading.{all_pieces, hello_at};
 
 use crate::Ids;
-use crate::numbers::{bytes_from, u8_at, u16_at, u32_at};
+use crate::fields::{bytes_from, push_u32, u8_at, u16_at, u32_at};
 use byteorder::{BigEndian, ByteOrder};
 use std::alloc::{AllocError, Global};
 
@@ -50,6 +50,7 @@ fn read_ids(alloc: Global, bytes: &[u8]) -> Result<Option<Ids>, AllocError>
 pub fn read_hello(alloc: Global, body: &[u8]) -> Result<Option<Hello>, AllocError>
     ensures { IfOk result (λ found. found ≡ hello_at body.now) }
 {
+    // RFC 2328 appendix A.3.2: 20 bytes, and behind them 4 for each neighbour.
     if body.len() < 20 {
         return Ok(None);
     }
@@ -86,17 +87,6 @@ fn fixed_bytes(hello: &Hello) -> [u8; 20]
     BigEndian::write_u32(&mut bytes[12..], dr);
     BigEndian::write_u32(&mut bytes[16..], bdr);
     bytes
-}
-
-/// Appends the four bytes of a number.
-#[tactic(auto, unfolding(crate::specs::Fields::number))]
-pub fn push_u32(n: u32, out: &mut Vec<u8>) -> Result<(), AllocError>
-    ensures { OnOk result (out.new.items ≡ out.old.items ++ number 4 n) }
-{
-    let mut bytes = [0; 4];
-    BigEndian::write_u32(&mut bytes, n);
-    out.extend_from_slice(&bytes)?;
-    Ok(())
 }
 
 /// Appends ids.

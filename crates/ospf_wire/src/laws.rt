@@ -31,7 +31,8 @@ pub fn router_links_are_read()
 
 /// The links for which a body is written are read from it.
 pub fn written_router_links_are_read()
-    ensures { (ls : List RouterLink) → length ls ≤ 65535 → All FitsLink ls → router_links_at (router_body_bytes ls) ≡ Some ls }
+    ensures { (ls : List RouterLink) → length ls ≤ 65535 → All FitsLink ls
+        → router_links_at (router_body_bytes ls) ≡ Some ls }
 {}
 
 /// The checksum over a packet whose checksum field is zero is right once it is written there. (The words

@@ -4,19 +4,10 @@ ghost use Rattle.std.specs.Prelude.{◌≡◌, ◌≤◌, ◌++◌, length, IfOk
 ghost use Rattle.ospf_wire.specs.Lsas.{header_of, header_bytes, lsa_bytes, FitsHeader};
 ghost use Rattle.ospf_wire.specs.Reading.{lsa_at};
 
-use crate::numbers::{u8_at, u16_at, u32_at};
+use crate::fields::{u8_at, u16_at, u32_at};
 use byteorder::{BigEndian, ByteOrder};
 use dn_guest::Bytes;
 use std::alloc::{AllocError, Global};
-
-/// The greatest age, in seconds (RFC 2328 appendix B, MaxAge).
-pub const MAX_AGE: u16 = 3_600;
-
-/// The least sequence number, which an LSA begins with (RFC 2328 section 12.1.6).
-pub const FIRST_SEQ: u32 = 0x8000_0001;
-
-/// The greatest sequence number (RFC 2328 section 12.1.6).
-pub const LAST_SEQ: u32 = 0x7fff_ffff;
 
 /// The header of an LSA, 20 bytes in a packet (RFC 2328 appendix A.4.1).
 #[derive(Clone, Copy, Debug, PartialEq, Eq)]

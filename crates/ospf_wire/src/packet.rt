@@ -6,11 +6,11 @@ ghost use Rattle.ospf_wire.specs.Packets.{body_bytes, kind_of, header_text, summ
 ghost use Rattle.dn_guest.specs.KeepsFront.{KeepsFront};
 ghost use Rattle.ospf_wire.specs.Reading.{has_header, body_at, packet_at};
 
-use crate::ack::{push_headers, read_headers};
+use crate::acknowledgement::{push_headers, read_headers};
+use crate::fields::{bytes_from, u8_at, u16_at, u32_at};
 use crate::hello::{Hello, push_hello, read_hello};
-use crate::numbers::{bytes_from, u8_at, u16_at, u32_at};
+use crate::link_state_update::{push_update, read_update};
 use crate::packet_sum::{checksum, ip_sum};
-use crate::update::{push_update, read_update};
 use crate::{LsaHeaders, Lsas};
 use byteorder::{BigEndian, ByteOrder};
 use dn_guest::Bytes;
@@ -43,6 +43,8 @@ fn has_header(bytes: &[u8]) -> bool
     ensures test { result ≡ has_header bytes.now }
     ensures long { IsTrue result → 24 ≤ length bytes.now }
 {
+    // RFC 2328 section 8.2 and appendix A.3.1; this profile: null authentication alone, and no bytes
+    // behind the packet's length.
     bytes.len() >= 24
         && u8_at(bytes, 0) == 2
         && usize::from(u16_at(bytes, 2)) == bytes.len()
@@ -55,6 +57,7 @@ fn has_header(bytes: &[u8]) -> bool
 fn read_body(alloc: Global, kind: u8, bytes: &[u8]) -> Result<Option<Body>, AllocError>
     ensures { IfOk result (λ found. found ≡ body_at kind bytes.now) }
 {
+    // RFC 2328 appendix A.3.1, the types. This profile: 2 and 3 are no packets.
     match kind {
         1 => Ok(read_hello(alloc, bytes)?.map(|hello| Body::Hello(hello))),
         4 => Ok(read_update(alloc, bytes)?.map(|lsas| Body::Update(lsas))),

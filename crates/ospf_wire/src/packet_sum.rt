@@ -3,7 +3,7 @@
 ghost use Rattle.std.specs.Prelude.{◌≡◌, ℕ, ◌+◌, ◌-◌, ◌*◌, ◌++◌, sum, length};
 ghost use Rattle.ospf_wire.specs.Sums.{carried, words, checksum, packet_checksum};
 
-use crate::numbers::{bytes_from, u16_at};
+use crate::fields::{bytes_from, u16_at};
 
 /// The sum with one word more, the carry added back in.
 fn with_word(so_far: u16, word: u16) -> u16

@@ -9,7 +9,7 @@ ghost use Rattle.ospf_wire.specs.RouterLsas.{link_of, link_len, link_bytes, link
 ghost use Rattle.ospf_wire.specs.Reading.{are_links, is_well_formed, link_at, links_at, router_links_at};
 
 use crate::RouterLinks;
-use crate::numbers::{bytes_from, u8_at, u16_at, u32_at};
+use crate::fields::{bytes_from, u8_at, u16_at, u32_at};
 use byteorder::{BigEndian, ByteOrder};
 use dn_guest::Bytes;
 use std::alloc::{AllocError, Global};
@@ -28,7 +28,8 @@ pub struct RouterLink {
 
 /// How many bytes the link at the front takes, if it is whole.
 fn link_len(bytes: &[u8]) -> Option<usize>
-    ensures { MatchOption result (length bytes.now + 1 ≤ link_len bytes.now) (λ n. (n ≡ link_len bytes.now) × (n ≤ length bytes.now) × (12 ≤ n)) }
+    ensures { MatchOption result (length bytes.now + 1 ≤ link_len bytes.now) (λ n. (n
+        ≡ link_len bytes.now) × (n ≤ length bytes.now) × (12 ≤ n)) }
 {
     if bytes.len() < 12 {
         return None;

@@ -7,7 +7,7 @@ use crate::lsas::lsa_of;
 use anyhow::{Result, bail};
 use ospf_lsdb::Lsdb;
 use ospf_spf::Route;
-use ospf_wire::{FIRST_SEQ, Lsa, LsaHeader, RouterLink, router_body};
+use ospf_wire::{INITIAL_SEQUENCE_NUMBER, Lsa, LsaHeader, RouterLink, router_body};
 use std::alloc::Global;
 use std::fmt::Write;
 
@@ -33,7 +33,7 @@ pub fn router(alloc: Global, database: &mut Lsdb, line: &str) -> Result<String> 
         kind: 1,
         id,
         router: id,
-        seq: FIRST_SEQ,
+        seq: INITIAL_SEQUENCE_NUMBER,
         sum: 0,
         length: (24 + 12 * links.len()) as u16,
     };

@@ -3,7 +3,7 @@
 
 use dn_guest::Bytes;
 use ospf_wire::{
-    Body, Hello, Ids, LAST_SEQ, Lsa, LsaHeader, Packet, decode, encode, fletcher_ok, fletcher_set,
+    Body, Hello, Ids, MAX_SEQUENCE_NUMBER, Lsa, LsaHeader, Packet, decode, encode, fletcher_ok, fletcher_set,
     ip_sum, newer,
 };
 use std::cmp::Ordering;
@@ -83,7 +83,7 @@ fn an_acknowledgement_has_its_headers(rt: HostRuntime) -> Result<(), Fail> {
     };
     assert_eq!(rt; headers.as_slice().len(), 2);
     assert_eq!(rt; headers.as_slice()[0], ROUTER_LSA);
-    assert_eq!(rt; headers.as_slice()[1].seq, LAST_SEQ);
+    assert_eq!(rt; headers.as_slice()[1].seq, MAX_SEQUENCE_NUMBER);
     Ok(())
 }
 
@@ -113,7 +113,7 @@ fn the_newer_instance(rt: HostRuntime) {
         (LsaHeader { seq: 0, ..first }, first),
         (
             LsaHeader {
-                seq: LAST_SEQ,
+                seq: MAX_SEQUENCE_NUMBER,
                 ..first
             },
             LsaHeader {

@@ -1,5 +1,5 @@
 use Rattle.std.proofs.Common.{sym, ◌∙◌}
-use Rattle.ospf_flood.proofs.ListLaws.{put_again, put_back}
+use Rattle.ospf_flood.proofs.RetransmissionLaws.{put_again, put_back}
 use Rattle.ospf_flood.proofs.FloodLaws.{one_put, one_back}
 use Rattle.ospf_flood.proofs.flooding.+install_from.Goals as goal
 

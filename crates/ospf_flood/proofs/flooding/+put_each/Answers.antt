@@ -1,4 +1,4 @@
-use Rattle.ospf_flood.proofs.ListLaws.{put_back}
+use Rattle.ospf_flood.proofs.RetransmissionLaws.{put_back}
 use Rattle.ospf_flood.proofs.FloodLaws.{one_back}
 use Rattle.ospf_flood.proofs.flooding.+put_each.Goals as goal
 

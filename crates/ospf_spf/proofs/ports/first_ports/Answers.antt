@@ -5,7 +5,7 @@ use Rattle.std.proofs.lemmas.List.{length-replicate}
 use Rattle.std.proofs.lemmas.List.Elements.{Contains-get_or}
 use Rattle.ospf_spf.specs.declared.graph.Hop.{Hop}
 use Rattle.ospf_spf.specs.Search.{label, row}
-use Rattle.ospf_spf.specs.Ports.{IsPassed, AreViaFrom}
+use Rattle.ospf_spf.specs.Ports.{ArePassedOn, AreViaFrom}
 use Rattle.ospf_spf.proofs.Passing.{via_step, all_via, no_via}
 use Rattle.ospf_spf.proofs.Starting.{label_in, row_is, written, at_default, zeros}
 use Rattle.ospf_spf.proofs.ports.first_ports.Goals as goal
@@ -94,8 +94,8 @@ bounds-hops-vertex c =
     let um : u < length c.loop-vertex.masks.items = omega arith in
     uh
 
-pub pass-requires-clause-cost : goal.pass-requires-clause-cost
-pass-requires-clause-cost c =
+pub pass_ports_on-requires-clause-cost : goal.pass_ports_on-requires-clause-cost
+pass_ports_on-requires-clause-cost c =
     let items = c.deref-vertex-items.result.now in
     let order = c.args.found.now.order.items in
     let best = c.args.found.now.best.items in
@@ -115,8 +115,8 @@ pass-requires-clause-cost c =
     let y = c.requires.size in
     omega arith
 
-pub pass-requires-clause-row : goal.pass-requires-clause-row
-pass-requires-clause-row c k d l =
+pub pass_ports_on-requires-clause-row : goal.pass_ports_on-requires-clause-row
+pass_ports_on-requires-clause-row c k d l =
     let items = c.deref-vertex-items.result.now in
     let order = c.args.found.now.order.items in
     let best = c.args.found.now.best.items in
@@ -161,17 +161,17 @@ loop-vertex-preserved c =
           let e : w.deref.result.now ≡ row c.args.hops.now u = w.deref.ensures.value ∙ ap (λ (v : Vec Hop). v.items) w.index-hops-vertex.is ∙ sym (row_is c.args.hops.now u w.index-hops-vertex.result uh) in
           let be : w.deref-in-Some.result.now ≡ best = w.deref-in-Some.ensures.value in
           let me : w.deref_mut.result.now ≡ c.loop-vertex.masks.items = w.deref_mut.ensures.value in
-          let passed : IsPassed w.deref.result.now cost (eqb u c.args.root) w.index-ports.result.now (label w.deref-in-Some.result.now) w.deref_mut.result.now w.pass.new.masks = w.pass.ensures in
+          let passed : ArePassedOn w.deref.result.now cost (eqb u c.args.root) w.index-ports.result.now (label w.deref-in-Some.result.now) w.deref_mut.result.now w.pass_ports_on.new.masks = w.pass_ports_on.ensures in
           let ms = c.loop-vertex.masks.items in
-          let new = w.pass.new.masks in
-          let len : length new ≡ c.loop-vertex.masks.len = w.pass.auto.masks ∙ ap length me ∙ sym c.loop-vertex.masks.ok.0 in
+          let new = w.pass_ports_on.new.masks in
+          let len : length new ≡ c.loop-vertex.masks.len = w.pass_ports_on.auto.masks ∙ ap length me ∙ sym c.loop-vertex.masks.ok.0 in
           let now : c.match-index.masks.items ≡ new = ap (λ (v : Vec ℕ). v.items) w.masks-is ∙ written c.loop-vertex.masks.len new (drop (length new) ms) len in
           let L = label best in
           let at_root = eqb u c.args.root in
           let ports = w.index-ports.result.now in
-          let p1 : IsPassed (row c.args.hops.now u) cost at_root ports (label w.deref-in-Some.result.now) w.deref_mut.result.now new = subst (λ (hs : List Hop). IsPassed hs cost at_root ports (label w.deref-in-Some.result.now) w.deref_mut.result.now new) e passed in
-          let p2 : IsPassed (row c.args.hops.now u) cost at_root ports L w.deref_mut.result.now new = subst (λ (xs : List (Option ℕ)). IsPassed (row c.args.hops.now u) cost at_root ports (label xs) w.deref_mut.result.now new) be p1 in
-          let p3 : IsPassed (row c.args.hops.now u) cost at_root ports L ms new = subst (λ (xs : List ℕ). IsPassed (row c.args.hops.now u) cost at_root ports L xs new) me p2 in
+          let p1 : ArePassedOn (row c.args.hops.now u) cost at_root ports (label w.deref-in-Some.result.now) w.deref_mut.result.now new = subst (λ (hs : List Hop). ArePassedOn hs cost at_root ports (label w.deref-in-Some.result.now) w.deref_mut.result.now new) e passed in
+          let p2 : ArePassedOn (row c.args.hops.now u) cost at_root ports L w.deref_mut.result.now new = subst (λ (xs : List (Option ℕ)). ArePassedOn (row c.args.hops.now u) cost at_root ports (label xs) w.deref_mut.result.now new) be p1 in
+          let p3 : ArePassedOn (row c.args.hops.now u) cost at_root ports L ms new = subst (λ (xs : List ℕ). ArePassedOn (row c.args.hops.now u) cost at_root ports L xs new) me p2 in
           let v = via_step c.args.hops.now c.args.root L order (length c.args.hops.now) c.requires.least c.requires.hops i u cost ports at_root ms new il (sym iu) lab refl pm c.loop-vertex.invariant.via p3 in
           record {
             len = ap length now ∙ len ∙ c.loop-vertex.masks.ok.0 ∙ ml;

@@ -1,6 +1,0 @@
-use Rattle.std.proofs.Common.{◌≡◌, ◌++◌}
-use Rattle.ospf_flood.specs.Lists.{due}
-use Rattle.ospf_flood.proofs.port_list.PortList.due.Given as goal
-
-abbrev pub invariant-loop-key : goal.invariant-loop-key
-invariant-loop-key l = l.keys.items ++ due l.now l.key-iterator ≡ due l.now l.self

@@ -1,0 +1,11 @@
+use Rattle.std.proofs.Common.{◌≡◌, length}
+use Rattle.std.specs.Prelude.{fold}
+use Rattle.std.specs.List.{range_with_len}
+use Rattle.ospf_router.specs.Ticks.{retransmit_on}
+use Rattle.ospf_router.proofs.router.Router.retransmit.Given as goal
+
+abbrev pub invariant-loop-port : goal.invariant-loop-port
+invariant-loop-port l = record {
+  far : l.self ≡ fold (retransmit_on l.full) l.fn.self (range_with_len 0 l.port);
+  count : length l.self.interfaces.ports ≡ length l.fn.self.interfaces.ports;
+}
