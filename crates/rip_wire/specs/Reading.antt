@@ -1,7 +1,9 @@
 -- What the reader makes of its bytes. The grammar is in Messages and Entries.
-use Rattle.std.specs.Prelude.{◌+◌, ◌-◌, ◌*◌, ◌/◌, ◌%◌, ◌==◌, ◌&&◌, ◌||◌, ℕ, zero, suc, Bool, nat_le, if◌then◌else◌, List, [], ◌∷◌, length, drop, slice_index, Option, Some, None}
+use Rattle.std.specs.Prelude.{◌+◌, ◌-◌, ◌*◌, ◌/◌, ◌%◌, ◌==◌, ◌&&◌, ◌||◌, ℕ, zero, suc, Bool, nat_le, if◌then◌else◌}
+use Rattle.std.specs.Prelude.{List, [], ◌∷◌, length, drop, slice_index, Option, Some, None}
 use Rattle.byteorder.specs.Endian.{big_number}
-use Rattle.rip_wire.specs.Constants.{bytes_per_entry, header_bytes, most_entries, request_command, response_command, rip_version}
+use Rattle.rip_wire.specs.Constants.{bytes_per_entry, header_bytes, most_entries}
+use Rattle.rip_wire.specs.Constants.{request_command, response_command, rip_version}
 use Rattle.rip_wire.specs.declared.entry.Entry.{Entry}
 use Rattle.rip_wire.specs.declared.message.Message.{Message}
 
@@ -45,5 +47,8 @@ entry_count bytes = (length bytes - header_bytes) / bytes_per_entry
 unfoldable pub message_at : List ℕ → Option Message
 message_at bytes =
     if has_form bytes
-    then Some (record { command = slice_index bytes 0; entries = entries_at (entry_count bytes) (drop header_bytes bytes) })
+    then Some (record {
+      command = slice_index bytes 0;
+      entries = entries_at (entry_count bytes) (drop header_bytes bytes);
+    })
     else None

@@ -59,7 +59,8 @@ fn read_message(alloc: Global, bytes: &[u8]) -> Result<Option<Message>, AllocErr
 /// The message that these bytes are, the whole of them. `None` comes exactly if they are none: another
 /// version or command, a part of an entry, no entry, or more than 25 (RFC 2453 sections 3.6 and 4).
 ///
-/// The two bytes behind the version, which RFC 2453 section 3.6 wants to be zero, are not looked at. It takes memory for the entries alone.
+/// The two bytes behind the version, which RFC 2453 section 3.6 wants to be zero, are not looked at. It takes
+/// memory for the entries alone.
 pub fn decode(alloc: Global, bytes: &[u8]) -> Result<Option<Message>, AllocError>
     ensures exact { IfOk result (λ found. found ≡ message_at bytes.now) }
     ensures found { IfOk result (λ found. IfSome found (λ m. IsMessage bytes.now m)) }
