@@ -13,7 +13,7 @@ use rip_wire::{GARBAGE_COLLECTION, INFINITY, TIMEOUT};
 pub struct Held {
     /// The route tag, as it was told (RFC 2453 section 4.2).
     pub tag: u16,
-    /// 1 to 16, where 16 is infinity.
+    /// 1 to 16; 16 is infinity (RFC 2453 section 3.6).
     pub metric: u8,
     /// The port on which the route was told; `None` for a network of the router's own.
     pub via: Option<u8>,
