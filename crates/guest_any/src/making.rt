@@ -9,6 +9,7 @@ ghost use Rattle.guest_any.specs.Openings.{costs_of, networks_of, opening_guest}
 use crate::AnyGuest;
 use dn_guest::{Flood, NoMemory};
 use dn_model::{End, Header, Kind, Prefix, RouterDef, ends};
+use dn_net::{Costs, PrefixList};
 use ospf_guest::Ospf;
 use ospf_router::OspfSettings;
 use rip_guest::{Rip, RipSettings};
@@ -45,7 +46,8 @@ fn make_ospf(
     prefixes: &[Prefix],
 ) -> Result<AnyGuest, NoMemory>
     requires { router < length header.now.routers }
-    ensures { IfOk result (λ guest. guest ≡ any.Ospf (opening_ospf router (costs_of header.now router) (networks_of prefixes.now))) }
+    ensures { IfOk result (λ guest. guest
+        ≡ any.Ospf (opening_ospf router (costs_of header.now router) (networks_of prefixes.now))) }
 {
     let ends = ends(alloc, header, router)?;
     let settings = OspfSettings {
@@ -64,13 +66,14 @@ fn make_rip(
     prefixes: &[Prefix],
 ) -> Result<AnyGuest, NoMemory>
     requires { router < length header.now.routers }
-    ensures { IfOk result (λ guest. guest ≡ any.Rip (opening_rip router (costs_of header.now router) (networks_of prefixes.now))) }
+    ensures { IfOk result (λ guest. guest
+        ≡ any.Rip (opening_rip router (costs_of header.now router) (networks_of prefixes.now))) }
 {
     let ends = ends(alloc, header, router)?;
     let settings = RipSettings {
         number: router,
-        costs: rip_guest::Costs::from_vec(costs_of(alloc, ends.as_slice())?),
-        prefixes: rip_guest::PrefixList::from_vec(networks_of(alloc, prefixes)?),
+        costs: Costs::from_vec(costs_of(alloc, ends.as_slice())?),
+        prefixes: PrefixList::from_vec(networks_of(alloc, prefixes)?),
     };
     Ok(AnyGuest::Rip(Rip::new(alloc, &settings)?))
 }
