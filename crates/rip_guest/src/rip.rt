@@ -174,9 +174,11 @@ impl Rip {
             return Ok(());
         };
         let entries = message.entries.as_slice();
+        // section 3.9.1
         if message.command == REQUEST {
             return answer_request(alloc, &self.table, port, entries, out);
         }
+        // section 3.9.2; the other command is a response
         let cost = self.costs[usize::from(port)];
         take_response(&mut self.table, port, cost, self.last_tick, entries)
     }
@@ -194,12 +196,17 @@ impl Rip {
         ensures outputs { OnOk result (out.new ≡ out.old ++ handled_outs ports self.old input.now) }
     {
         match input {
+            // sections 3.8 and 3.9.1
             Input::Tick(group) => self.tick(alloc, ports, *group, out)?,
+            // this profile: own networks are set and withdrawn
             Input::Cmd(body) => command(&mut self.table, self.last_tick, body.as_slice())?,
+            // this profile: the routes by the port are lost
             Input::Down(port) if self.has_port(*port) => self
                 .table
                 .lose_port(*port, self.last_tick),
+            // section 3.9.1: the neighbour is asked for the whole table
             Input::Up(port) if self.has_port(*port) => put_request(alloc, *port, out)?,
+            // sections 3.9.1 and 3.9.2
             Input::Msg(port, body) if self.has_port(*port) => {
                 self.message(alloc, *port, body.as_slice(), out)?
             }
@@ -219,6 +226,7 @@ impl Rip {
         ensures state { OnOk result (self.new ≡ triggered_sent self.old) }
         ensures outputs { OnOk result (out.new ≡ out.old ++ triggered_update ports self.old) }
     {
+        // section 3.10.1: the changed routes alone
         if self.table.changed() {
             self.update(alloc, ports, true, out)?;
         }
