@@ -52,8 +52,8 @@ fn make_ospf(
     let ends = ends(alloc, header, router)?;
     let settings = OspfSettings {
         number: router,
-        costs: ospf_router::Costs::from_vec(costs_of(alloc, ends.as_slice())?),
-        prefixes: ospf_router::PrefixList::from_vec(networks_of(alloc, prefixes)?),
+        costs: costs_of(alloc, ends.as_slice())?,
+        prefixes: networks_of(alloc, prefixes)?,
     };
     Ok(AnyGuest::Ospf(Ospf::new(alloc, &settings)?))
 }
@@ -72,30 +72,30 @@ fn make_rip(
     let ends = ends(alloc, header, router)?;
     let settings = RipSettings {
         number: router,
-        costs: Costs::from_vec(costs_of(alloc, ends.as_slice())?),
-        prefixes: PrefixList::from_vec(networks_of(alloc, prefixes)?),
+        costs: costs_of(alloc, ends.as_slice())?,
+        prefixes: networks_of(alloc, prefixes)?,
     };
     Ok(AnyGuest::Rip(Rip::new(alloc, &settings)?))
 }
 
 /// The costs of the ports, in order.
-fn costs_of(alloc: Global, ends: &[End]) -> Result<Vec<u16>, NoMemory>
-    ensures { IfOk result (λ costs. costs.items ≡ map (λ e. e.cost) ends.now) }
+fn costs_of(alloc: Global, ends: &[End]) -> Result<Costs, NoMemory>
+    ensures { IfOk result (λ costs. costs ≡ map (λ e. e.cost) ends.now) }
 {
     let mut costs = Vec::new(alloc);
     for end in ends {
         costs.push(end.cost)?;
     }
-    Ok(costs)
+    Ok(Costs::from_vec(costs))
 }
 
 /// The prefixes as settings have them.
-fn networks_of(alloc: Global, prefixes: &[Prefix]) -> Result<Vec<(u32, u8, u16)>, NoMemory>
-    ensures { IfOk result (λ networks. networks.items ≡ networks_of prefixes.now) }
+fn networks_of(alloc: Global, prefixes: &[Prefix]) -> Result<PrefixList, NoMemory>
+    ensures { IfOk result (λ networks. networks ≡ networks_of prefixes.now) }
 {
     let mut networks = Vec::new(alloc);
     for prefix in prefixes {
         networks.push((prefix.address, prefix.len, prefix.cost))?;
     }
-    Ok(networks)
+    Ok(PrefixList::from_vec(networks))
 }
