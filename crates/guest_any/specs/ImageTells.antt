@@ -11,7 +11,8 @@ use Rattle.guest_any.specs.declared.any.AnyGuest.{AnyGuest}
 use Rattle.guest_any.specs.declared.any.AnyGuest.TheVariants.{Flood, Ospf, Rip}
 use Rattle.guest_any.specs.Any.{any_sort, any_image}
 
-pub same_by_image : (one other : AnyGuest) → any_sort one ≡ any_sort other → any_image one ≡ any_image other → one ≡ other
+pub same_by_image : (one other : AnyGuest)
+    → any_sort one ≡ any_sort other → any_image one ≡ any_image other → one ≡ other
 same_by_image (Flood a) (Flood b) sort image = ap (λ (bodies : Bodies). Flood bodies) (same_bodies a b image)
 same_by_image (Ospf a) (Ospf b) sort image = ap (λ (state : OspfState). Ospf state) (same_ospf a b image)
 same_by_image (Rip a) (Rip b) sort image = ap (λ (state : RipState). Rip state) (same_rip a b image)

@@ -9,6 +9,7 @@ ghost use Rattle.guest_any.specs.Openings.{costs_of, networks_of, opening_guest}
 use crate::AnyGuest;
 use dn_guest::{Flood, NoMemory};
 use dn_model::{End, Header, Kind, Prefix, RouterDef, ends};
+use dn_net::{Costs, PrefixList};
 use ospf_guest::Ospf;
 use ospf_router::OspfSettings;
 use rip_guest::{Rip, RipSettings};
@@ -45,13 +46,14 @@ fn make_ospf(
     prefixes: &[Prefix],
 ) -> Result<AnyGuest, NoMemory>
     requires { router < length header.now.routers }
-    ensures { IfOk result (λ guest. guest ≡ any.Ospf (opening_ospf router (costs_of header.now router) (networks_of prefixes.now))) }
+    ensures { IfOk result (λ guest. guest
+        ≡ any.Ospf (opening_ospf router (costs_of header.now router) (networks_of prefixes.now))) }
 {
     let ends = ends(alloc, header, router)?;
     let settings = OspfSettings {
         number: router,
-        costs: ospf_router::Costs::from_vec(costs_of(alloc, ends.as_slice())?),
-        prefixes: ospf_router::PrefixList::from_vec(networks_of(alloc, prefixes)?),
+        costs: costs_of(alloc, ends.as_slice())?,
+        prefixes: networks_of(alloc, prefixes)?,
     };
     Ok(AnyGuest::Ospf(Ospf::new(alloc, &settings)?))
 }
@@ -64,35 +66,36 @@ fn make_rip(
     prefixes: &[Prefix],
 ) -> Result<AnyGuest, NoMemory>
     requires { router < length header.now.routers }
-    ensures { IfOk result (λ guest. guest ≡ any.Rip (opening_rip router (costs_of header.now router) (networks_of prefixes.now))) }
+    ensures { IfOk result (λ guest. guest
+        ≡ any.Rip (opening_rip router (costs_of header.now router) (networks_of prefixes.now))) }
 {
     let ends = ends(alloc, header, router)?;
     let settings = RipSettings {
         number: router,
-        costs: rip_guest::Costs::from_vec(costs_of(alloc, ends.as_slice())?),
-        prefixes: rip_guest::PrefixList::from_vec(networks_of(alloc, prefixes)?),
+        costs: costs_of(alloc, ends.as_slice())?,
+        prefixes: networks_of(alloc, prefixes)?,
     };
     Ok(AnyGuest::Rip(Rip::new(alloc, &settings)?))
 }
 
 /// The costs of the ports, in order.
-fn costs_of(alloc: Global, ends: &[End]) -> Result<Vec<u16>, NoMemory>
-    ensures { IfOk result (λ costs. costs.items ≡ map (λ e. e.cost) ends.now) }
+fn costs_of(alloc: Global, ends: &[End]) -> Result<Costs, NoMemory>
+    ensures { IfOk result (λ costs. costs ≡ map (λ e. e.cost) ends.now) }
 {
     let mut costs = Vec::new(alloc);
     for end in ends {
         costs.push(end.cost)?;
     }
-    Ok(costs)
+    Ok(Costs::from_vec(costs))
 }
 
 /// The prefixes as settings have them.
-fn networks_of(alloc: Global, prefixes: &[Prefix]) -> Result<Vec<(u32, u8, u16)>, NoMemory>
-    ensures { IfOk result (λ networks. networks.items ≡ networks_of prefixes.now) }
+fn networks_of(alloc: Global, prefixes: &[Prefix]) -> Result<PrefixList, NoMemory>
+    ensures { IfOk result (λ networks. networks ≡ networks_of prefixes.now) }
 {
     let mut networks = Vec::new(alloc);
     for prefix in prefixes {
         networks.push((prefix.address, prefix.len, prefix.cost))?;
     }
-    Ok(networks)
+    Ok(PrefixList::from_vec(networks))
 }

@@ -40,10 +40,11 @@ mod settings;
 mod step;
 mod tick;
 
+pub use dn_net::{Costs, PrefixList};
 pub use interfaces::{Interfaces, Port};
 pub use laws::{sound_parts, sound_states, sound_states_are_plain};
 pub use neighbour::{Heard, Neighbour};
 pub use prefixes::Prefixes;
 pub use router::Router;
-pub use settings::{Costs, OspfSettings, PrefixList};
+pub use settings::OspfSettings;
 pub use std::alloc::AllocError as NoMemory;

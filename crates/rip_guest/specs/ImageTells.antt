@@ -1,8 +1,9 @@
 -- Two states with one image are equal.
-use Rattle.std.specs.Prelude.{◌≡◌, ℕ, ◌+◌, ◌/◌, ◌%◌, ◌^◌, ◌==◌, Bool, true, false, if◌then◌else◌, List, [], ◌∷◌, ◌++◌, length, flat_map, Option, Some, None, refl}
+use Rattle.std.specs.Prelude.{◌≡◌, ℕ, ◌+◌, ◌/◌, ◌%◌, ◌^◌, ◌==◌, Bool, true, false, if◌then◌else◌, List, [], ◌∷◌, ◌++◌}
+use Rattle.std.specs.Prelude.{length, flat_map, Option, Some, None, refl}
 use Rattle.std.proofs.Common.{arith, ap, sym}
 use Rattle.rip_table.specs.declared.held.Held.{Held}
-use Rattle.rip_table.specs.Networks.{Network}
+use Rattle.dn_net.specs.Networks.{Network}
 use Rattle.rip_table.specs.Routes.{Routes}
 use Rattle.rip_guest.specs.State.{RipState}
 use Rattle.rip_guest.specs.Image.{two, bit, via_byte, mark_byte, route_image, rip_image}
@@ -12,7 +13,8 @@ use Rattle.rip_guest.specs.Image.{two, bit, via_byte, mark_byte, route_image, ri
 same_two : (m n : ℕ) → m / 2 ^ 8 ≡ n / 2 ^ 8 → m % 2 ^ 8 ≡ n % 2 ^ 8 → m ≡ n
 same_two m n high low = omega arith
 
-same_four : (m n : ℕ) → m / 2 ^ 24 ≡ n / 2 ^ 24 → m / 2 ^ 16 % 2 ^ 8 ≡ n / 2 ^ 16 % 2 ^ 8 → m / 2 ^ 8 % 2 ^ 8 ≡ n / 2 ^ 8 % 2 ^ 8 → m % 2 ^ 8 ≡ n % 2 ^ 8 → m ≡ n
+same_four : (m n : ℕ) → m / 2 ^ 24 ≡ n / 2 ^ 24 → m / 2 ^ 16 % 2 ^ 8 ≡ n / 2 ^ 16 % 2 ^ 8
+    → m / 2 ^ 8 % 2 ^ 8 ≡ n / 2 ^ 8 % 2 ^ 8 → m % 2 ^ 8 ≡ n % 2 ^ 8 → m ≡ n
 same_four m n a b c d = omega arith
 
 same_parts : (a b u v : List ℕ) → length a ≡ length b → a ++ u ≡ b ++ v → (a ≡ b) × (u ≡ v)
@@ -42,12 +44,14 @@ no_mark false false e = omega arith
 past : (c d : Bool) (port : ℕ) → 255 ≡ port → bit c ≡ bit d + (if port == 255 then 2 else 0) → ⊥
 past c d port is e = no_mark c d (rw (← is) at e)
 
-same_mark : (c d : Bool) (p q : ℕ) → p ≡ q → bit c + (if p == 255 then 2 else 0) ≡ bit d + (if q == 255 then 2 else 0) → c ≡ d
+same_mark : (c d : Bool) (p q : ℕ) → p ≡ q
+    → bit c + (if p == 255 then 2 else 0) ≡ bit d + (if q == 255 then 2 else 0) → c ≡ d
 same_mark c d p q is e =
     let marks : bit c + (if q == 255 then 2 else 0) ≡ bit d + (if q == 255 then 2 else 0) = rw is at e in
     same_bit c d (omega arith)
 
-same_source : (v w : Option ℕ) (c d : Bool) → via_byte v ≡ via_byte w → mark_byte v c ≡ mark_byte w d → (v ≡ w) × (c ≡ d)
+same_source : (v w : Option ℕ) (c d : Bool)
+    → via_byte v ≡ via_byte w → mark_byte v c ≡ mark_byte w d → (v ≡ w) × (c ≡ d)
 same_source None None c d via mark = (refl, same_bit c d mark)
 same_source None (Some q) c d via mark = absurd (past c d q via mark)
 same_source (Some p) None c d via mark = absurd (past d c p (cc) (cc))
@@ -64,8 +68,19 @@ same_route x y us vs e =
     let metric : x.1.metric ≡ y.1.metric = cc in
     let source = same_source x.1.via y.1.via x.1.changed y.1.changed (cc) (cc) in
     let time = same_four x.1.time y.1.time (cc) (cc) (cc) (cc) in
-    let rest : us ≡ vs = cc in
-    (λ i. ((address i, len i), record { tag = tag i; metric = metric i; via = source.0 i; time = time i; changed = source.1 i }), rest)
+    let rest : us ≡ vs = cc in (
+      λ i. (
+        (address i, len i),
+        record {
+          tag = tag i;
+          metric = metric i;
+          via = source.0 i;
+          time = time i;
+          changed = source.1 i;
+        },
+      ),
+      rest,
+    )
 
 filled : (y : Network × Held) (us : List ℕ) → [] ≡ route_image y ++ us → ⊥
 unfolding route_image
@@ -89,8 +104,10 @@ same_by_image a b e =
     let number = same_two a.number b.number (cc) (cc) in
     let tick = same_four a.last_tick b.last_tick (cc) (cc) (cc) (cc) in
     let ports : length a.costs ≡ length b.costs = cc in
-    let behind : a.costs ++ (two (length a.routes) ++ flat_map route_image a.routes) ≡ b.costs ++ (two (length b.routes) ++ flat_map route_image b.routes) = cc in
-    let parts = same_parts a.costs b.costs (two (length a.routes) ++ flat_map route_image a.routes) (two (length b.routes) ++ flat_map route_image b.routes) ports behind in
+    let behind : a.costs ++ (two (length a.routes) ++ flat_map route_image a.routes)
+    ≡ b.costs ++ (two (length b.routes) ++ flat_map route_image b.routes) = cc in
+    let parts = same_parts a.costs b.costs (two (length a.routes) ++ flat_map route_image a.routes)
+    (two (length b.routes) ++ flat_map route_image b.routes) ports behind in
     let tails = parts.1 in
     let text : flat_map route_image a.routes ≡ flat_map route_image b.routes = cc in
     let costs = parts.0 in

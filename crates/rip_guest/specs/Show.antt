@@ -1,15 +1,10 @@
 -- Lines that tell a reader of the routes: `route A.B.C.D/LEN METRIC via WHERE`, where WHERE is `own` or a port.
-use Rattle.std.specs.Prelude.{ℕ, ◌/◌, ◌%◌, ◌^◌, List, [], ◌∷◌, ◌++◌, flat_map, codes, Option, Some, None}
+use Rattle.std.specs.Prelude.{ℕ, List, [], ◌∷◌, ◌++◌, flat_map, codes, Option, Some, None}
 use Rattle.std.specs.Fmt.{decimal}
+use Rattle.dn_net.specs.Networks.{Network}
+use Rattle.dn_net.specs.Texts.{network_text}
 use Rattle.rip_table.specs.declared.held.Held.{Held}
-use Rattle.rip_table.specs.Networks.{Network}
 use Rattle.rip_guest.specs.State.{RipState}
-
--- the four bytes of an address, in decimal with points between them
-unfoldable pub address_text : ℕ → List ℕ
-address_text address =
-    decimal (address / 2 ^ 24) ++ codes "." ++ decimal (address / 2 ^ 16 % 2 ^ 8) ++ codes "."
-    ++ decimal (address / 2 ^ 8 % 2 ^ 8) ++ codes "." ++ decimal (address % 2 ^ 8)
 
 abbrev pub where_text : Option ℕ → List ℕ
 where_text None = codes "own"
@@ -17,7 +12,8 @@ where_text (Some port) = decimal port
 
 unfoldable pub route_line : Network × Held → List ℕ
 route_line e =
-    codes "route " ++ address_text e.0.0 ++ codes "/" ++ decimal e.0.1 ++ codes " " ++ decimal e.1.metric ++ codes " via " ++ where_text e.1.via ++ 10 ∷ []
+    codes "route " ++ network_text e.0.0 e.0.1
+    ++ codes " " ++ decimal e.1.metric ++ codes " via " ++ where_text e.1.via ++ 10 ∷ []
 
 abbrev pub rip_show : RipState → List ℕ
 rip_show s = flat_map route_line s.routes

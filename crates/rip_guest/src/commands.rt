@@ -1,35 +1,31 @@
-//! Commands, which set and withdraw networks of the router's own.
+//! Commands, which set and withdraw networks of the router's own. They are this project's own.
 
 ghost use Rattle.std.specs.Prelude.{◌≡◌, OnOk};
-ghost use Rattle.rip_guest.specs.Commands.{commanded, has_room, is_setting, is_withdrawal, set, withdraw};
+ghost use Rattle.rip_guest.specs.Commands.{commanded, has_room_for_own, is_setting, is_withdrawal, set, withdraw};
 
 use byteorder::{BigEndian, ByteOrder};
-use rip_table::{Table, is_network};
+use dn_net::is_network;
+use rip_table::Table;
+use rip_wire::{GREATEST_OWN_METRIC, MOST_OWN_NETWORKS};
 use std::alloc::AllocError;
 
-/// The greatest number of own networks that can be reached.
-const MOST_OWN: u64 = 32;
-
-/// The greatest metric of an own network.
-const GREATEST_METRIC: u16 = 15;
-
 /// Whether the network is own, or one more own network may come.
-fn has_room(table: &Table, address: u32, len: u8) -> bool
-    ensures { result ≡ has_room table.now address len }
+fn has_room_for_own(table: &Table, address: u32, len: u8) -> bool
+    ensures { result ≡ has_room_for_own table.now address len }
 {
     let is_own = match table.get(address, len) {
         Some(held) => held.is_current(),
         None => false,
     };
-    is_own || table.own_count() < MOST_OWN
+    is_own || table.own_count() < MOST_OWN_NETWORKS
 }
 
 /// Sets a network to a metric of 1 to 15.
 fn set(table: &mut Table, address: u32, len: u8, metric: u16, now: u32) -> Result<(), AllocError>
     ensures { OnOk result (table.new ≡ set table.old address len metric now) }
 {
-    let is_valid = is_network(address, len) && 1 <= metric && metric <= GREATEST_METRIC;
-    if is_valid && has_room(table, address, len) {
+    let is_valid = is_network(address, len) && 1 <= metric && metric <= GREATEST_OWN_METRIC;
+    if is_valid && has_room_for_own(table, address, len) {
         table.connect(address, len, metric as u8, now)?;
     }
     Ok(())

@@ -42,7 +42,7 @@ fn via_byte(via: Option<u8>) -> u8
     }
 }
 
-/// 1 where the route is marked as changed, and 2 more for a port of 255.
+/// 1 if the route is marked as changed, and 2 more for a port of 255.
 fn mark_byte(via: Option<u8>, changed: bool) -> u8
     ensures { result ≡ mark_byte via changed }
 {

@@ -24,6 +24,7 @@ mod settings;
 mod show;
 mod updates;
 
+pub use dn_net::{Costs, PrefixList};
 pub use rip::Rip;
-pub use settings::{Costs, PrefixList, RipSettings};
+pub use settings::RipSettings;
 pub use std::alloc::AllocError as NoMemory;

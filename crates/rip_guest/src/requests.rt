@@ -1,38 +1,40 @@
 //! What a request is answered (RFC 2453 section 3.9.1).
 
 ghost use Rattle.std.specs.Prelude.{◌≡◌, ◌≤◌, ◌++◌, OnOk, IfOk, map, length};
-ghost use Rattle.rip_guest.specs.Requests.{answered, answers, asks_for_all, is_authenticated, metric_at};
+ghost use Rattle.rip_wire.specs.Constants.{most_entries};
+ghost use Rattle.rip_guest.specs.Requests.{answered_entry, request_answers, asks_for_all, is_authenticated, metric_at};
 
 use crate::updates::{put_message, put_update};
 use dn_guest::Outbox;
-use rip_table::{INFINITY, Table, is_network, mask_len};
-use rip_wire::{Entries, Entry, Message, RESPONSE};
+use dn_net::{is_network, mask_len};
+use rip_table::Table;
+use rip_wire::{
+    AUTHENTICATION_FAMILY, Entries, Entry, INFINITY, Message, RESPONSE, WHOLE_TABLE_FAMILY,
+};
 use std::alloc::{AllocError, Global};
 
-/// The family of an entry of authentication (RFC 2453 section 4.1).
-const AUTHENTICATION: u16 = 0xffff;
-
-/// Whether the first entry is one of authentication.
+/// Whether the first entry is one of authentication (RFC 2453 section 4.1).
 pub fn is_authenticated(entries: &[Entry]) -> bool
     ensures { result ≡ is_authenticated entries.now }
 {
     match entries {
-        [first, ..] => first.family == AUTHENTICATION,
+        [first, ..] => first.family == AUTHENTICATION_FAMILY,
         [] => false,
     }
 }
 
-/// Whether the entries ask for the whole table.
+/// Whether the entries ask for the whole table: exactly one, of family 0 and metric infinity (RFC 2453 section
+/// 3.9.1).
 fn asks_for_all(entries: &[Entry]) -> bool
     ensures { result ≡ asks_for_all entries.now }
 {
     match entries {
-        [only] => only.family == 0 && only.metric == u32::from(INFINITY),
+        [only] => only.family == WHOLE_TABLE_FAMILY && only.metric == u32::from(INFINITY),
         _ => false,
     }
 }
 
-/// The metric of the route to this address and length.
+/// The metric of the route to this address and length, and infinity if there is none (RFC 2453 section 3.9.1).
 fn metric_at(table: &Table, address: u32, len: Option<u8>) -> u8
     ensures { result ≡ metric_at table.now address len }
 {
@@ -45,9 +47,10 @@ fn metric_at(table: &Table, address: u32, len: Option<u8>) -> u8
     }
 }
 
-/// The entry with the table's metric.
-fn answered(table: &Table, entry: Entry) -> Entry
-    ensures { result ≡ answered table.now entry }
+/// The entry with the table's metric, and all else as it was asked (RFC 2453 section 3.9.1). In this profile a mask
+/// with a gap and an address with host bits have infinity.
+fn answered_entry(table: &Table, entry: Entry) -> Entry
+    ensures { result ≡ answered_entry table.now entry }
 {
     let metric = metric_at(table, entry.address, mask_len(entry.mask));
     Entry {
@@ -57,36 +60,43 @@ fn answered(table: &Table, entry: Entry) -> Entry
 }
 
 /// The entries with the table's metrics.
-fn all_answered(alloc: Global, table: &Table, entries: &[Entry]) -> Result<Vec<Entry>, AllocError>
-    ensures { IfOk result (λ made. made.items ≡ map (answered table.now) entries.now) }
+fn answered_entries(
+    alloc: Global,
+    table: &Table,
+    entries: &[Entry],
+) -> Result<Vec<Entry>, AllocError>
+    ensures { IfOk result (λ made. made.items ≡ map (answered_entry table.now) entries.now) }
 {
     let mut made = Vec::with_capacity(alloc, entries.len())?;
     for entry in entries {
-        made.push(answered(table, *entry))?;
+        made.push(answered_entry(table, *entry))?;
     }
     Ok(made)
 }
 
-/// Puts out what a request on a port is answered.
-pub fn answer(
+/// Puts out what a request on a port is answered (RFC 2453 section 3.9.1).
+pub fn answer_request(
     alloc: Global,
     table: &Table,
     port: u8,
     entries: &[Entry],
     out: &mut Outbox,
 ) -> Result<(), AllocError>
-    requires { (1 ≤ length entries.now) × (length entries.now ≤ 25) }
-    ensures { OnOk result (out.new ≡ out.old ++ answers table.now port entries.now) }
+    requires { (1 ≤ length entries.now) × (length entries.now ≤ most_entries) }
+    ensures { OnOk result (out.new ≡ out.old ++ request_answers table.now port entries.now) }
 {
+    // section 4.1; this profile has no authentication, and passes it over
     if is_authenticated(entries) {
         return Ok(());
     }
+    // section 3.9.1: the whole table, as a regular update, with split horizon
     if asks_for_all(entries) {
         return put_update(alloc, port, table, false, out);
     }
+    // section 3.9.1: entry by entry, without split horizon
     let message = Message {
         command: RESPONSE,
-        entries: Entries::from_vec(all_answered(alloc, table, entries)?),
+        entries: Entries::from_vec(answered_entries(alloc, table, entries)?),
     };
     put_message(alloc, port, &message, out)
 }

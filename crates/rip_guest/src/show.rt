@@ -7,6 +7,7 @@ ghost use Rattle.dn_text.specs.Pieces.{piece_text};
 ghost use Rattle.rip_guest.specs.Show.{route_line, where_text};
 
 use dn_guest::Bytes;
+use dn_net::push_network;
 use dn_text::{Piece, append_all};
 use rip_table::{Held, Table};
 use std::alloc::AllocError;
@@ -22,23 +23,14 @@ fn where_piece(via: Option<u8>) -> Piece<'static>
 }
 
 /// Appends the line of a route.
-#[tactic(auto, unfolding(crate::specs::Show::route_line, crate::specs::Show::address_text))]
+#[tactic(auto, unfolding(crate::specs::Show::route_line))]
 fn push_line(network: (u32, u8), held: Held, out: &mut Bytes) -> Result<(), AllocError>
     ensures ok { OnOk result (out.new ≡ out.old ++ route_line (network, held)) }
     ensures kept { KeepsFront out.old out.new }
 {
-    let (address, len) = network;
+    out.append(b"route ")?;
+    push_network(network.0, network.1, out)?;
     let pieces = [
-        Piece::Text(b"route "),
-        Piece::Decimal(u64::from(address / 0x100_0000)),
-        Piece::Text(b"."),
-        Piece::Decimal(u64::from(address / 0x1_0000 % 256)),
-        Piece::Text(b"."),
-        Piece::Decimal(u64::from(address / 256 % 256)),
-        Piece::Text(b"."),
-        Piece::Decimal(u64::from(address % 256)),
-        Piece::Text(b"/"),
-        Piece::Decimal(u64::from(len)),
         Piece::Text(b" "),
         Piece::Decimal(u64::from(held.metric)),
         Piece::Text(b" via "),

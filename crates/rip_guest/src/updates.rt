@@ -1,12 +1,16 @@
 //! Updates and the request for the whole table (RFC 2453 sections 3.9.1 and 3.10).
 
 ghost use Rattle.std.specs.Prelude.{◌≡◌, ◌≤◌, ◌<◌, ◌*◌, ◌++◌, ◌∷◌, [], OnOk, length};
+ghost use Rattle.rip_wire.specs.Constants.{most_entries, response_command};
 ghost use Rattle.rip_wire.specs.Messages.{IsEncodable};
-ghost use Rattle.rip_guest.specs.Updates.{message_on, part, request_on, requests, responses_on, update_on, updates};
+ghost use Rattle.rip_guest.specs.Updates.{message_on, message_part, request_on, requests, responses_on};
+ghost use Rattle.rip_guest.specs.Updates.{update_on, updates};
 
 use dn_guest::{Bytes, Outbox, is_up};
 use rip_table::Table;
-use rip_wire::{Entries, Entry, MOST_ENTRIES, Message, REQUEST, RESPONSE, encode};
+use rip_wire::{
+    Entries, Entry, INFINITY, MOST_ENTRIES, Message, REQUEST, RESPONSE, WHOLE_TABLE_FAMILY, encode,
+};
 use std::alloc::{AllocError, Global};
 
 /// Puts out a message of 1 to 25 entries.
@@ -24,17 +28,17 @@ pub fn put_message(
     out.put(port, body)
 }
 
-/// Asks for the whole table on a port.
+/// Asks for the whole table on a port: one entry of family 0 and metric infinity (RFC 2453 section 3.9.1).
 pub fn put_request(alloc: Global, port: u8, out: &mut Outbox) -> Result<(), AllocError>
     ensures { OnOk result (out.new ≡ out.old ++ request_on port ∷ []) }
 {
     let entry = Entry {
-        family: 0,
+        family: WHOLE_TABLE_FAMILY,
         tag: 0,
         address: 0,
         mask: 0,
         hop: 0,
-        metric: 16,
+        metric: u32::from(INFINITY),
     };
     let message = Message {
         command: REQUEST,
@@ -43,7 +47,7 @@ pub fn put_request(alloc: Global, port: u8, out: &mut Outbox) -> Result<(), Allo
     put_message(alloc, port, &message, out)
 }
 
-/// Asks for the whole table on each of the ports that is up.
+/// Asks for the whole table on each of the ports that is up (RFC 2453 section 3.9.1).
 pub fn put_requests(
     alloc: Global,
     ports: u16,
@@ -61,11 +65,11 @@ pub fn put_requests(
 }
 
 /// The entries from the place 25 * k on, 25 at most.
-fn part(entries: &[Entry], k: usize) -> &[Entry]
-    requires { 25 * k < length entries.now }
-    ensures entries { result.now ≡ part entries.now k }
+fn message_part(entries: &[Entry], k: usize) -> &[Entry]
+    requires { most_entries * k < length entries.now }
+    ensures entries { result.now ≡ message_part entries.now k }
     ensures some { 1 ≤ length result.now }
-    ensures few { length result.now ≤ 25 }
+    ensures few { length result.now ≤ most_entries }
 {
     let rest = &entries[MOST_ENTRIES * k..];
     &rest[..rest.len().min(MOST_ENTRIES)]
@@ -79,17 +83,17 @@ fn put_part(
     k: usize,
     out: &mut Outbox,
 ) -> Result<(), AllocError>
-    requires { 25 * k < length entries.now }
-    ensures { OnOk result (out.new ≡ out.old ++ message_on port 2 (part entries.now k) ∷ []) }
+    requires { most_entries * k < length entries.now }
+    ensures { OnOk result (out.new ≡ out.old ++ message_on port response_command (message_part entries.now k) ∷ []) }
 {
     let message = Message {
         command: RESPONSE,
-        entries: Entries::from_vec(Vec::from_slice(alloc, part(entries, k))?),
+        entries: Entries::from_vec(Vec::from_slice(alloc, message_part(entries, k))?),
     };
     put_message(alloc, port, &message, out)
 }
 
-/// Puts out responses with these entries, 25 in each and the rest in the last.
+/// Puts out responses with these entries, 25 in each and the rest in the last (RFC 2453 section 3.6).
 fn put_responses(
     alloc: Global,
     port: u8,
@@ -105,7 +109,8 @@ fn put_responses(
     Ok(())
 }
 
-/// Puts out an update on a port: of all routes, or of those alone that changed.
+/// Puts out an update on a port, with split horizon: of all routes in a regular update (RFC 2453 section 3.10), or
+/// of those alone that changed in a triggered one (section 3.10.1).
 pub fn put_update(
     alloc: Global,
     port: u8,

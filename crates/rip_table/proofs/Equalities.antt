@@ -9,7 +9,7 @@ use Rattle.std.proofs.lemmas.Bool.Decides.{Decides-eqb}
 use Rattle.std.proofs.lemmas.Option.{same_Some}
 use Rattle.rip_table.specs.declared.held.Held.{Held}
 use Rattle.rip_table.specs.contracts.held.HeldPartialEq.TheImpl as values
-use Rattle.rip_table.specs.Networks.{Network}
+use Rattle.dn_net.specs.Networks.{Network}
 
 -- two tests in a row decide both facts
 and_decides : {P Q : Type 0} (x y : Bool) → Decides x P → Decides y Q → Decides (x && y) (P × Q)

@@ -1,4 +1,3 @@
-pub mod NetworkLaws
 pub mod RouteLaws
 pub mod OwnLaws
 pub mod Equalities

@@ -10,12 +10,13 @@ use Rattle.std.specs.Ordering.{match_ordering}
 use Rattle.std.proofs.lemmas.Map.Keys.{sorted_tail}
 use Rattle.std.proofs.lemmas.Map.{lookup-none}
 use Rattle.std.proofs.lemmas.Map.Entries.{none_below_head}
+use Rattle.rip_wire.specs.Constants.{garbage_collection, infinity, timeout}
 use Rattle.rip_table.specs.declared.held.Held.{Held}
 use Rattle.rip_table.specs.Held.{is_current, is_gone, is_lost_via, is_own, is_reachable, is_timed_out, is_via, learnt, lost, refreshed}
-use Rattle.rip_table.specs.Networks.{Network}
+use Rattle.dn_net.specs.Networks.{Network, network_cmp}
 use Rattle.rip_table.specs.Own.{own_at, own_count}
-use Rattle.rip_table.specs.Response.{revised, route_after}
-use Rattle.rip_table.specs.Routes.{Routes, all_changed, held_at, network_cmp, put}
+use Rattle.rip_table.specs.Response.{existing_after, route_after}
+use Rattle.rip_table.specs.Routes.{Routes, all_changed, held_at, put}
 use Rattle.rip_table.specs.Timers.{port_lost, timed_out}
 use Rattle.rip_table.proofs.RouteLaws.{held_here, kept_none, networks_total, put_here}
 
@@ -120,7 +121,7 @@ not_own false r t e = refl
 
 -- of the routes by a port only
 pub timed_same : (now : ℕ) (h : Held) → is_current (timed_out now h) ≡ is_current h
-timed_same now h = lost_by (is_timed_out now h) now h (not_own (is_own h) (is_reachable h) (nat_le 180 (now - h.time)))
+timed_same now h = lost_by (is_timed_out now h) now h (not_own (is_own h) (is_reachable h) (nat_le timeout (now - h.time)))
 
 via_some : (v : Option ℕ) (port : ℕ) (h : Held) → h.via ≡ v → is_lost_via port h ≡ true → is_own h ≡ false
 via_some None port h t e = let none : false ≡ true = rw t at e in absurd cc
@@ -135,7 +136,7 @@ gone_by o false rest e = and_false o
 
 -- one that can't be reached
 pub gone_is_not : (now : ℕ) (h : Held) → not (is_gone now h) ≡ false → is_current h ≡ false
-gone_is_not now h = gone_by (is_own h) (is_reachable h) (nat_le 120 (now - h.time))
+gone_is_not now h = gone_by (is_own h) (is_reachable h) (nat_le garbage_collection (now - h.time))
 
 revised_by : (c a b d v k : Bool) (port tag m now : ℕ) (h : Held) → is_current h ≡ c
     → is_current (cond c h (cond a (refreshed now h) (cond b h (cond d (learnt port tag m now) (cond v (lost now h) (cond k (learnt port tag m now) h)))))) ≡ c
@@ -147,9 +148,9 @@ revised_by false false false false true k port tag m now h e = lost_is_not now h
 revised_by false false false false false true port tag m now h e = refl
 revised_by false false false false false false port tag m now h e = e
 
-revised_same : (port tag m now : ℕ) (h : Held) → is_current (revised port tag m now h) ≡ is_current h
+revised_same : (port tag m now : ℕ) (h : Held) → is_current (existing_after port tag m now h) ≡ is_current h
 revised_same port tag m now h =
-    revised_by (is_current h) (is_via port h && m == h.metric && nat_lt m 16) (is_via port h && m == h.metric) (is_via port h && nat_lt m 16) (is_via port h) (nat_lt m h.metric) port tag m now h refl
+    revised_by (is_current h) (is_via port h && m == h.metric && nat_lt m infinity) (is_via port h && m == h.metric) (is_via port h && nat_lt m infinity) (is_via port h) (nat_lt m h.metric) port tag m now h refl
 
 added_by : (b : Bool) (port tag m now : ℕ) → own_at (cond b (Some (learnt port tag m now)) None) ≡ 0
 added_by true port tag m now = refl
@@ -157,7 +158,7 @@ added_by false port tag m now = refl
 
 -- an entry of a response makes no own network, and takes none that can be reached
 pub heard_same : (full : Bool) (port tag m now : ℕ) (held : Option Held) → own_at (route_after full port tag m now held) ≡ own_at held
-heard_same full port tag m now None = added_by (nat_lt m 16 && not full) port tag m now
+heard_same full port tag m now None = added_by (nat_lt m infinity && not full) port tag m now
 heard_same full port tag m now (Some h) = ap (λ (b : Bool). cond b 1 0) (revised_same port tag m now h)
 
 pub heard_own : (full : Bool) (port tag m now : ℕ) (held route : Option Held) (n : Network) (es new : Routes)

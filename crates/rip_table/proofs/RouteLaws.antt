@@ -15,9 +15,9 @@ use Rattle.std.proofs.lemmas.Map.Entries.{none_below_head}
 use Rattle.std.specs.Cmp.{IsTotalOrder, then_total, on_total, tied_itself}
 use Rattle.std.proofs.lemmas.Cmp.{nat_cmp_total}
 use Rattle.rip_table.specs.declared.held.Held.{Held}
-use Rattle.rip_table.specs.Networks.{Network}
-use Rattle.rip_table.specs.Routes.{Routes, network_cmp, held_at, is_full, put}
-use Rattle.rip_table.specs.Response.{revised, route_after}
+use Rattle.dn_net.specs.Networks.{Network, network_cmp}
+use Rattle.rip_table.specs.Routes.{Routes, held_at, is_full, put}
+use Rattle.rip_table.specs.Response.{existing_after, route_after}
 
 -- ---- the order tells all networks apart
 
@@ -107,7 +107,7 @@ written n h v (e ∷ es) sorted found =
 
 pub kept_none : (full : Bool) (port tag m now : ℕ) (held : Option Held) → route_after full port tag m now held ≡ None → held ≡ None
 kept_none full port tag m now None e = refl
-kept_none full port tag m now (Some h) e = absurd (none-some (revised port tag m now h) (sym e))
+kept_none full port tag m now (Some h) e = absurd (none-some (existing_after port tag m now h) (sym e))
 
 pub put_here : (routes : Routes) (n : Network) (route : Option Held) → (route ≡ None → held_at routes n ≡ None) → held_at (put routes n route) n ≡ route
 put_here routes n None none = none refl

@@ -1,7 +1,7 @@
-pub mod Networks
+pub mod Validation
 pub mod Held
 pub mod Routes
 pub mod Response
 pub mod Own
 pub mod Timers
-pub mod Reply
+pub mod Updates

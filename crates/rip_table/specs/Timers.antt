@@ -4,11 +4,11 @@ use Rattle.rip_table.specs.declared.held.Held.{Held}
 use Rattle.rip_table.specs.Held.{lost, is_lost_via, is_timed_out, is_gone}
 use Rattle.rip_table.specs.Routes.{Routes, all_changed}
 
--- a route that wasn't heard for 180 ticks is lost
+-- a route that timed out is lost
 abbrev pub timed_out : ℕ → Held → Held
 timed_out now h = if is_timed_out now h then lost now h else h
 
--- the routes that aren't heard any more are lost, and those lost 120 or more ticks ago are removed
+-- first the routes that timed out are lost, then those whose garbage collection is over are removed
 abbrev pub ticked : ℕ → Routes → Routes
 ticked now routes = filter (λ e. not (is_gone now e.1)) (all_changed (timed_out now) routes)
 

@@ -2,7 +2,7 @@
 
 ghost use Rattle.std.specs.Prelude.{◌≡◌, ◌≢◌, Option, Some, None};
 ghost use Rattle.rip_table.specs.declared.held.Held.{Held};
-ghost use Rattle.rip_table.specs.Networks.{Network};
+ghost use Rattle.dn_net.specs.Networks.{Network};
 ghost use Rattle.rip_table.specs.Routes.{Routes, held_at, put};
 
 /// A route that is put is held at its network, and every other network's route is as before.

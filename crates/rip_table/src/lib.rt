@@ -3,13 +3,13 @@
 //!
 //! | File | What it has |
 //! |---|---|
-//! | `networks.rt` | masks and their lengths, and the networks that a router may be told of |
 //! | `held.rt` | `Held`, a route with its metric, its source and its timer |
 //! | `table.rt` | `Table`: looking up, the keys, equality, the marks of changed routes |
+//! | `validation.rt` | which entries of a response are taken, and of which network each tells |
 //! | `response.rt` | what an entry of a response does to the table |
 //! | `own.rt` | the router's own networks |
 //! | `timers.rt` | timeout and garbage collection, and a port that went down |
-//! | `reply.rt` | the entries of an update |
+//! | `updates.rt` | the entries of an update, with split horizon |
 //! | `laws.rt` | laws of the definitions |
 //!
 //! The one contract upwards: in a clause a `Table` is the list of its routes in ascending order of the
@@ -18,15 +18,16 @@
 
 mod held;
 mod laws;
-mod networks;
 mod own;
-mod reply;
 mod response;
 mod table;
 mod timers;
+mod updates;
+mod validation;
 
-pub use held::{Held, INFINITY};
+pub use dn_net::{is_network, mask_len, mask_of};
+pub use held::Held;
 pub use laws::a_change_is_at_one_network;
-pub use networks::{is_network, mask_len, mask_of};
+pub use rip_wire::{INFINITY, MOST_ROUTES};
 pub use std::alloc::AllocError as NoMemory;
-pub use table::{MOST_ROUTES, Table};
+pub use table::Table;

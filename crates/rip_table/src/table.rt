@@ -1,36 +1,36 @@
 //! The table.
 
-ghost use Rattle.std.specs.Prelude.{◌≡◌, ◌↔◌, ◌≤◌, ◌≢◌, ◌+◌, [], IsTrue, IfOk, OnOk, OnErr, IfSome, Some, None, is_some, length, option_copied};
+ghost use Rattle.std.specs.Prelude.{◌≡◌, ◌↔◌, ◌≤◌, ◌≢◌, ◌+◌, [], IsTrue, IfOk, OnOk, OnErr, IfSome, Some, None};
+ghost use Rattle.std.specs.Prelude.{is_some, length, option_copied};
 ghost use Rattle.std.specs.Map.{keys_of};
 ghost use Rattle.std.specs.List.Sorted.{IsStrictlySortedBy};
+ghost use Rattle.dn_net.specs.Networks.{Network, network_cmp};
+ghost use Rattle.rip_wire.specs.Constants.{most_routes};
 ghost use Rattle.rip_table.specs.Held.{settled};
-ghost use Rattle.rip_table.specs.Networks.{Network, told_network};
 ghost use Rattle.rip_table.specs.Own.{own_at, own_count, with_own, without_own};
-ghost use Rattle.rip_table.specs.Reply.{entries_of};
-ghost use Rattle.rip_table.specs.Response.{metric_by, route_after, told};
-ghost use Rattle.rip_table.specs.Routes.{all_changed, any_changed, held_at, is_full, network_cmp, put};
+ghost use Rattle.rip_table.specs.Response.{entry_taken, metric_with_cost, route_after};
+ghost use Rattle.rip_table.specs.Routes.{all_changed, any_changed, held_at, is_full, put};
 ghost use Rattle.rip_table.specs.Timers.{port_lost, ticked};
+ghost use Rattle.rip_table.specs.Updates.{update_entries};
+ghost use Rattle.rip_table.specs.Validation.{destination_of};
 
 use crate::Held;
-use crate::networks::told_network;
 use crate::own::{connect, withdraw};
-use crate::reply::entries_of;
-use crate::response::hear;
+use crate::response::take_entry;
 use crate::timers::{collect_garbage, lose_all_via, time_out};
-use rip_wire::Entry;
+use crate::updates::update_entries;
+use crate::validation::destination_of;
+use rip_wire::{Entry, MOST_ROUTES};
 use std::alloc::{AllocError, Global};
 use std::collections::BTreeMap;
 use std::marker::Model;
-
-/// The greatest number of routes in a table. Where there are so many, nothing is added.
-pub const MOST_ROUTES: usize = 65_535;
 
 /// What is held for each network: an address and a length.
 pub type Routes = BTreeMap<(u32, u8), Held>;
 
 /// The table: a finite map from a network, its address and the length of its mask, to the route that is
 /// held. Contracts see it as the list of its entries in ascending order of address and length. Moments
-/// are ticks, one a second; where `now` is before the tick that a route keeps, no tick has passed.
+/// are ticks, one a second; if `now` is before the tick that a route keeps, no tick has passed.
 #[derive(Drop)]
 pub struct Table {
     alloc: Global,
@@ -41,6 +41,7 @@ pub struct Table {
 
 impl Model for Table {
     ghost use Rattle.std.specs.Prelude.{List, ℕ, ◌≡◌, ◌≤◌, length};
+    ghost use Rattle.rip_wire.specs.Constants.{most_routes};
     ghost use Rattle.rip_table.specs.declared.held.Held.{Held};
     ghost use Rattle.rip_table.specs.Own.{own_count};
 
@@ -48,7 +49,7 @@ impl Model for Table {
 
     ghost view = { λ t. t.routes.entries };
 
-    ghost invariant = { λ t. (length t.routes.entries ≤ 65535) × (t.own ≡ own_count t.routes.entries) };
+    ghost invariant = { λ t. (length t.routes.entries ≤ most_routes) × (t.own ≡ own_count t.routes.entries) };
 }
 
 impl Table {
@@ -63,7 +64,7 @@ impl Table {
         }
     }
 
-    /// The route to this network. `None` comes exactly where there is none.
+    /// The route to this network. `None` comes exactly if there is none.
     pub fn get(&self, address: u32, len: u8) -> Option<&Held>
         ensures { option_copied result ≡ held_at self.now (address, len) }
     {
@@ -73,7 +74,7 @@ impl Table {
     /// How many routes there are.
     pub fn len(&self) -> u64
         ensures count { result ≡ length self.now }
-        ensures few { length self.now ≤ 65535 }
+        ensures few { length self.now ≤ most_routes }
         ensures ascending { IsStrictlySortedBy network_cmp (keys_of self.now) }
     {
         self.routes.len() as u64
@@ -127,7 +128,7 @@ impl Table {
     }
 
     /// Takes an entry of a response that came on this port, whose cost is 1 to 16 (RFC 2453 section 3.9.2).
-    /// An entry that is no valid route changes nothing. Of the others the route to the entry's network
+    /// An entry that isn't valid changes nothing. Of the others the route to the entry's network
     /// alone changes: one that is new or shorter is taken, one of the same port is followed. The table
     /// takes memory only for a network that it adds; after `NoMemory` it is as before.
     pub fn response(
@@ -137,20 +138,22 @@ impl Table {
         entry: &Entry,
         now: u32,
     ) -> Result<(), AllocError>
-        ensures ok { OnOk result (self.new ≡ told port cost entry.now now self.old) }
-        ensures route { OnOk result (IfSome (told_network entry.now) (λ n. held_at self.new n
-            ≡ route_after (is_full self.old) port entry.now.tag (metric_by cost entry.now) now (held_at self.old n))) }
-        ensures others { OnOk result ((n : Network) → told_network entry.now ≢ Some n → held_at self.new n ≡ held_at self.old n) }
+        ensures ok { OnOk result (self.new ≡ entry_taken port cost entry.now now self.old) }
+        ensures route { OnOk result (IfSome (destination_of entry.now) (λ n. held_at self.new n
+            ≡ route_after (is_full self.old) port entry.now.tag (metric_with_cost cost entry.now) now
+            (held_at self.old n))) }
+        ensures others { OnOk result ((n : Network)
+            → destination_of entry.now ≢ Some n → held_at self.new n ≡ held_at self.old n) }
         ensures err { OnErr result (self.new ≡ self.old) }
     {
-        let Some(network) = told_network(entry) else {
+        let Some(network) = destination_of(entry) else {
             return Ok(());
         };
-        hear(&mut self.routes, network, port, cost, entry, now)
+        take_entry(&mut self.routes, network, port, cost, entry, now)
     }
 
-    /// Sets a network of the router's own to this metric, which is 1 to 16. It is marked as changed, but
-    /// where it was own with that metric the mark stays. After `NoMemory` the table is as before.
+    /// Sets a network of the router's own to this metric, which is 1 to 16. It is marked as changed, except that the
+    /// mark stays if it was own with that metric. After `NoMemory` the table is as before. This is the project's own.
     pub fn connect(&mut self, address: u32, len: u8, metric: u8, now: u32) -> Result<(), AllocError>
         ensures ok { OnOk result (self.new ≡ with_own self.old address len metric now) }
         ensures err { OnErr result (self.new ≡ self.old) }
@@ -162,8 +165,8 @@ impl Table {
         Ok(())
     }
 
-    /// Begins the deletion of a network of the router's own. Nothing happens where it isn't own, can't be
-    /// reached, or isn't there.
+    /// Begins the deletion of a network of the router's own (RFC 2453 section 3.8). Nothing happens if it isn't own,
+    /// can't be reached, or isn't there.
     pub fn lose(&mut self, address: u32, len: u8, now: u32)
         ensures { self.new ≡ without_own self.old address len now }
     {
@@ -173,7 +176,8 @@ impl Table {
         self.own = self.own - before + own_at(&self.routes, network);
     }
 
-    /// Begins the deletion of each route by this port that can be reached.
+    /// Begins the deletion of each route by this port that can be reached. RFC 2453 names no such event: this is the
+    /// profile's own.
     pub fn lose_port(&mut self, port: u8, now: u32)
         ensures { self.new ≡ all_changed (port_lost port now) self.old }
     {
@@ -190,14 +194,14 @@ impl Table {
         collect_garbage(&mut self.routes, now);
     }
 
-    /// Whether some route changed since the last update.
+    /// Whether some route changed since the last update (RFC 2453 section 3.10.1).
     pub fn changed(&self) -> bool
         ensures { result ≡ any_changed self.now }
     {
         any_changed(&self.routes)
     }
 
-    /// Takes the mark of a change from each route.
+    /// Takes the mark of a change from each route (RFC 2453 section 3.10.1).
     pub fn settle(&mut self)
         ensures { self.new ≡ all_changed settled self.old }
     {
@@ -208,9 +212,9 @@ impl Table {
     /// that changed. `to` is the port to which the update goes: the metric of each route by this port is 16
     /// (poisoned reverse, RFC 2453 section 3.4.3).
     pub fn reply(&self, to: Option<u8>, only_changed: bool) -> Result<Vec<Entry>, AllocError>
-        ensures { IfOk result (λ entries. entries.items ≡ entries_of to only_changed self.now) }
+        ensures { IfOk result (λ entries. entries.items ≡ update_entries to only_changed self.now) }
     {
-        entries_of(self.alloc, &self.routes, to, only_changed)
+        update_entries(self.alloc, &self.routes, to, only_changed)
     }
 }
 
@@ -222,11 +226,12 @@ pub fn is_full(routes: &Routes) -> bool
     MOST_ROUTES <= routes.len()
 }
 
-/// Holds this route in the place of the one before. Where there is none, nothing changes.
+/// Holds this route in the place of the one before. If there is none, nothing changes.
 pub fn put(routes: &mut Routes, network: (u32, u8), route: Option<Held>) -> Result<(), AllocError>
     ensures ok { OnOk result (routes.new.entries ≡ put routes.old.entries network route) }
     ensures len { length routes.new.entries ≤ length routes.old.entries + 1 }
-    ensures known { IsTrue (is_some (held_at routes.old.entries network)) → length routes.new.entries ≡ length routes.old.entries }
+    ensures known { IsTrue (is_some (held_at routes.old.entries network))
+        → length routes.new.entries ≡ length routes.old.entries }
     ensures nothing { route ≡ None → length routes.new.entries ≡ length routes.old.entries }
     ensures err { OnErr result (routes.new.entries ≡ routes.old.entries) }
 {
@@ -255,7 +260,7 @@ fn all_entries(alloc: Global, routes: &Routes) -> Result<Vec<((u32, u8), Held)>,
     Ok(entries)
 }
 
-/// 1 where a network of the router's own is held that can be reached, and 0 where none is.
+/// 1 if a network of the router's own is held that can be reached, and 0 otherwise.
 #[tactic(auto, using(crate::proofs::OwnLaws::own_few))]
 fn own_at(routes: &Routes, network: (u32, u8)) -> u64
     ensures number { result ≡ own_at (held_at routes.now.entries network) }

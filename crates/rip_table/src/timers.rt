@@ -8,12 +8,13 @@ ghost use Rattle.rip_table.specs.Timers.{port_lost, timed_out};
 
 use crate::table::Routes;
 
-/// Begins the deletion of the routes that weren't heard for 180 ticks.
+/// Begins the deletion of the routes whose timeout is over (RFC 2453 section 3.8).
 pub fn time_out(routes: &mut Routes, now: u32)
     ensures timed { routes.new.entries ≡ all_changed (timed_out now) routes.old.entries }
     ensures own { own_count routes.new.entries ≡ own_count routes.old.entries }
 {
     routes.retain(|_network, held| {
+        // RFC 2453 section 3.8: the timeout expires, and the deletion begins
         if held.is_timed_out(now) {
             *held = held.lost(now);
         }
@@ -21,16 +22,18 @@ pub fn time_out(routes: &mut Routes, now: u32)
     });
 }
 
-/// Removes the routes whose deletion began 120 or more ticks ago.
+/// Removes the routes whose garbage collection is over (RFC 2453 section 3.8).
 pub fn collect_garbage(routes: &mut Routes, now: u32)
     ensures kept { routes.new.entries ≡ filter (λ e. not (is_gone now e.1)) routes.old.entries }
     ensures no_more { length routes.new.entries ≤ length routes.old.entries }
     ensures own { own_count routes.new.entries ≡ own_count routes.old.entries }
 {
+    // RFC 2453 section 3.8: the garbage-collection timer expires
     routes.retain(|_network, held| !held.is_gone(now));
 }
 
-/// Begins the deletion of the routes by this port.
+/// Begins the deletion of the routes by this port that can be reached. RFC 2453 names no such event: this is the
+/// profile's own.
 pub fn lose_all_via(routes: &mut Routes, port: u8, now: u32)
     ensures lost { routes.new.entries ≡ all_changed (port_lost port now) routes.old.entries }
     ensures own { own_count routes.new.entries ≡ own_count routes.old.entries }

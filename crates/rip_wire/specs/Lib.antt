@@ -1,3 +1,4 @@
+pub mod Constants
 pub mod Entries
 pub mod Messages
 pub mod Reading

@@ -61,7 +61,7 @@ pub fn read_entries(alloc: Global, count: usize, bytes: &[u8]) -> Result<Entries
     Ok(Entries::from_vec(entries))
 }
 
-/// Appends the bytes of entries. After `NoMemory` what was in `out` before still stands at its front.
+/// Appends the bytes of entries. After `NoMemory` what was in `out` before is still at its front.
 pub fn push_entries(entries: &[Entry], out: &mut Bytes) -> Result<(), AllocError>
     ensures bytes { OnOk result (out.new ≡ out.old ++ entries_bytes entries.now) }
     ensures fits { OnOk result (All FitsEntry entries.now) }

@@ -20,7 +20,7 @@ pub struct Entry {
     pub mask: u32,
     /// The next hop; 0 is the sender of the message (RFC 2453 section 4.4).
     pub hop: u32,
-    /// The metric, 1 to 16 where it is one; 16 is infinity.
+    /// The metric, 1 to 16 in a valid entry; 16 is infinity (RFC 2453 section 3.6).
     pub metric: u32,
 }
 
@@ -48,7 +48,7 @@ fn u32_at(bytes: &[u8], at: usize) -> u32
     BigEndian::read_u32(&bytes[at..])
 }
 
-/// The entry that stands at the front of these bytes.
+/// The entry at the front of these bytes (RFC 2453 section 4).
 #[tactic(auto, unfolding(crate::specs::Reading::entry_at))]
 pub fn read_entry(bytes: &[u8]) -> Entry
     requires { 20 ≤ length bytes.now }
@@ -64,7 +64,7 @@ pub fn read_entry(bytes: &[u8]) -> Entry
     }
 }
 
-/// The 20 bytes of an entry.
+/// The 20 bytes of an entry (RFC 2453 section 4).
 #[tactic(auto, unfolding(crate::specs::Entries::entry_bytes))]
 pub fn entry_bytes(entry: Entry) -> [u8; 20]
     ensures bytes { result ≡ entry_bytes entry }

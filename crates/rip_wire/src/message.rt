@@ -7,24 +7,13 @@ ghost use Rattle.rip_wire.specs.Messages.{message_bytes, IsEncodable, IsMessage}
 ghost use Rattle.rip_wire.specs.Reading.{has_form, message_at};
 
 use crate::Entries;
+use crate::constants::{BYTES_PER_ENTRY, HEADER_BYTES, MOST_ENTRIES, REQUEST, RESPONSE, VERSION};
 use crate::entries::{push_entries, read_entries};
 use crate::entry::bytes_from;
 use dn_guest::Bytes;
 use std::alloc::{AllocError, Global};
 
-/// The command of a request for routes (RFC 2453 section 3.9.1).
-pub const REQUEST: u8 = 1;
-
-/// The command of a response, which tells routes (RFC 2453 section 3.9.2).
-pub const RESPONSE: u8 = 2;
-
-/// The greatest number of entries in a message (RFC 2453 section 3.6).
-pub const MOST_ENTRIES: usize = 25;
-
-/// The version of RIP.
-const VERSION: u8 = 2;
-
-/// A message without what is the same in all: version 2.
+/// A message without what is the same in all, which is version 2 (RFC 2453 section 4).
 #[derive(Drop)]
 pub struct Message {
     /// `REQUEST` or `RESPONSE`.
@@ -33,7 +22,8 @@ pub struct Message {
     pub entries: Entries,
 }
 
-/// Whether the bytes have a command, the version, and 1 to 25 whole entries behind the four first bytes.
+/// Whether the bytes have a command, the version, and 1 to 25 whole entries behind the header (RFC 2453
+/// sections 3.6, 3.9 and 4). This profile has version 2 alone.
 #[tactic(auto, unfolding(crate::specs::Reading::has_form))]
 fn has_form(bytes: &[u8]) -> bool
     ensures test { result ≡ has_form bytes.now }
@@ -41,10 +31,13 @@ fn has_form(bytes: &[u8]) -> bool
     ensures whole { IsTrue result → (length bytes.now - 4) % 20 ≡ 0 }
 {
     let length = bytes.len();
-    24 <= length
-        && length <= 4 + 20 * MOST_ENTRIES
-        && (length - 4) % 20 == 0
+    // RFC 2453 section 3.6: 1 to 25 entries of 20 bytes
+    HEADER_BYTES + BYTES_PER_ENTRY <= length
+        && length <= HEADER_BYTES + BYTES_PER_ENTRY * MOST_ENTRIES
+        && (length - HEADER_BYTES) % BYTES_PER_ENTRY == 0
+        // sections 3.6 and 3.9: a request or a response; this profile has no other command
         && (bytes[0] == REQUEST || bytes[0] == RESPONSE)
+        // section 4: version 2
         && bytes[1] == VERSION
 }
 
@@ -56,17 +49,18 @@ fn read_message(alloc: Global, bytes: &[u8]) -> Result<Option<Message>, AllocErr
     if !has_form(bytes) {
         return Ok(None);
     }
-    let count = (bytes.len() - 4) / 20;
+    let count = (bytes.len() - HEADER_BYTES) / BYTES_PER_ENTRY;
     Ok(Some(Message {
         command: bytes[0],
-        entries: read_entries(alloc, count, bytes_from(bytes, 4))?,
+        entries: read_entries(alloc, count, bytes_from(bytes, HEADER_BYTES))?,
     }))
 }
 
-/// The message that these bytes are, the whole of them. `None` comes exactly where they are none: another
+/// The message that these bytes are, the whole of them. `None` comes exactly if they are none: another
 /// version or command, a part of an entry, no entry, or more than 25 (RFC 2453 sections 3.6 and 4).
 ///
-/// The two bytes behind the version are not looked at. It takes memory for the entries alone.
+/// The two bytes behind the version, which RFC 2453 section 3.6 wants to be zero, are not looked at. It takes
+/// memory for the entries alone.
 pub fn decode(alloc: Global, bytes: &[u8]) -> Result<Option<Message>, AllocError>
     ensures exact { IfOk result (λ found. found ≡ message_at bytes.now) }
     ensures found { IfOk result (λ found. IfSome found (λ m. IsMessage bytes.now m)) }
@@ -77,8 +71,8 @@ pub fn decode(alloc: Global, bytes: &[u8]) -> Result<Option<Message>, AllocError
     read_message(alloc, bytes)
 }
 
-/// Appends the bytes of a message, with zeros behind the version. It takes memory in `out` alone; after
-/// `NoMemory` what was in `out` before still stands at its front.
+/// Appends the bytes of a message, with zeros behind the version (RFC 2453 section 4). It takes memory in `out`
+/// alone; after `NoMemory` what was in `out` before is still at its front.
 pub fn encode(message: &Message, out: &mut Bytes) -> Result<(), AllocError>
     requires { IsEncodable message.now }
     ensures ok { OnOk result (out.new ≡ out.old ++ message_bytes message.now) }

@@ -1,12 +1,13 @@
 use Rattle.std.proofs.Common.{◌≡◌, ◌+◌, ◌<◌, ℕ, List, ◌∷◌, length, drop, get_or, sym, ap, ◌∙◌, add-one, drop-cons}
 use Rattle.std.specs.Prelude.{fold, min}
+use Rattle.rip_wire.specs.Constants.{infinity}
 use Rattle.rip_table.specs.Own.{with_own}
 use Rattle.rip_table.specs.Routes.{Routes}
 use Rattle.rip_guest.specs.State.{Prefix}
 use Rattle.rip_guest.proofs.rip.opening_table.Goals as goal
 
 abbrev with_prefix : Routes → Prefix → Routes
-with_prefix routes p = with_own routes p.0 p.1 (min 16 p.2) 0
+with_prefix routes p = with_own routes p.0 p.1 (min infinity p.2) 0
 
 step : (routes : Routes) (ps : List Prefix) (i : ℕ) → i < length ps
     → fold with_prefix routes (drop i ps) ≡ fold with_prefix (with_prefix routes (get_or ps i (0, 0, 0))) (drop (i + 1) ps)

@@ -3,9 +3,10 @@ use Rattle.std.specs.Prelude.{option_map}
 use Rattle.std.specs.Map.{set_value}
 use Rattle.std.specs.BTreeMap.{is_at}
 use Rattle.std.proofs.lemmas.Map.{length-set_value}
+use Rattle.dn_net.specs.Networks.{network_cmp}
 use Rattle.rip_table.specs.declared.held.Held.{Held}
 use Rattle.rip_table.specs.Own.{withdrawn}
-use Rattle.rip_table.specs.Routes.{Routes, held_at, network_cmp, put}
+use Rattle.rip_table.specs.Routes.{Routes, held_at, put}
 use Rattle.rip_table.proofs.OwnLaws.{own_after}
 use Rattle.rip_table.proofs.RouteLaws.{written}
 use Rattle.rip_table.proofs.own.withdraw.Goals as goal

@@ -1,7 +1,7 @@
 use Rattle.std.proofs.Common.{◌≤◌, ◌^◌, arith}
 use Rattle.std.proofs.Math.Pow.{pow_mono}
 use Rattle.std.proofs.lemmas.Nat.{one_shl}
-use Rattle.rip_table.proofs.networks.addresses_of.Goals as goal
+use Rattle.dn_net.proofs.networks.addresses_of.Goals as goal
 
 pub returns-clause-most : goal.returns-clause-most
 returns-clause-most c =

@@ -1,11 +1,11 @@
--- The length of a mask is its number of leading ones, if it has one.
+-- The length of a mask is its number of leading ones, if the mask is contiguous.
 use Rattle.std.proofs.Common.{◌≡◌, ℕ, zero, suc, ◌+◌, ◌-◌, ◌<◌, ◌≤◌, ◌==◌, ◌&&◌, ◌||◌, Bool, true, false, cond, List, [], ◌∷◌, Option, Some, None, refl, sym, ap, ◌∙◌, arith}
 use Rattle.std.specs.Prelude.{find}
 use Rattle.std.specs.List.{range_with_len, list_any, AllByRecursion}
 use Rattle.std.specs.Int.{w32, leading_ones}
 use Rattle.std.proofs.lemmas.Bool.{eqb-true, eq-eqb, both_ways}
 use Rattle.std.proofs.lemmas.Nat.{leading_le}
-use Rattle.rip_table.specs.Networks.{mask_of, mask_len}
+use Rattle.dn_net.specs.Networks.{mask_of, mask_len}
 
 ones : ℕ → ℕ
 ones mask = leading_ones w32 mask

@@ -1,9 +1,9 @@
 use Rattle.std.proofs.Common.{◌≡◌, ◌==◌, ◌≢◌, ℕ, Bool, true, false, cond, Option, Some, None, refl, sym, ap, ◌∙◌}
 use Rattle.std.specs.Int.{w32, leading_ones}
 use Rattle.std.proofs.lemmas.Bool.{eq-eqb, eqb-true}
-use Rattle.rip_table.specs.Networks.{mask_of}
-use Rattle.rip_table.proofs.NetworkLaws.{len_is}
-use Rattle.rip_table.proofs.networks.mask_len.Goals as goal
+use Rattle.dn_net.specs.Networks.{mask_of}
+use Rattle.dn_net.proofs.MaskLaws.{len_is}
+use Rattle.dn_net.proofs.networks.mask_len.Goals as goal
 
 chosen : (b : Bool) (x : Option ℕ) → b ≡ true → cond b x None ≡ x
 chosen true x e = refl
