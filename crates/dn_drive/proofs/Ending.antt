@@ -1,22 +1,19 @@
 -- How a fabric stands at the end of a drive.
-use Rattle.std.proofs.Common.{◌≡◌, ℕ, ◌<◌, Bool, true, false, not, ◌&&◌, List, [], ◌++◌, length, take, refl, sym, ap, ◌∙◌, subst, arith, append-nil}
+use Rattle.std.proofs.Common.{◌≡◌, Bool, true, false, not, ◌&&◌, List, [], ◌++◌, refl, sym, ap, ◌∙◌, subst, append-nil}
 use Rattle.std.specs.Prelude.{if◌then◌else◌}
 use Rattle.std.specs.Ordering.{is_lt}
-use Rattle.std.proofs.lemmas.Bool.{ltb-true}
-use Rattle.std.proofs.lemmas.List.{length-take-le}
-use Rattle.std.proofs.Math.Seq.{take-append_seam}
 use Rattle.dn_model.specs.declared.feed.External.{External}
 use Rattle.dn_model.specs.Cases.{Heading, IsRecording}
 use Rattle.dn_model.specs.Order.{key_cmp, key_total}
 use Rattle.dn_model.specs.Network.{Network}
-use Rattle.dn_model.specs.Settled.{IsFeedOf, IsPrefixOf, is_cut, lockstep, row_limit, rows, shown_rows}
+use Rattle.dn_model.specs.Settled.{IsFeedOf, is_cut, lockstep, shown_rows}
 use Rattle.dn_lists.proofs.Sorting.{turn}
 use Rattle.dn_model.proofs.Ports.{fed_from}
 use Rattle.dn_world.specs.World.{World, horizon, is_quiet}
-use Rattle.dn_world.specs.Runs.{IsPlayable, Continues, world, settled_rows, committed, is_cut_off}
+use Rattle.dn_world.specs.Runs.{IsPlayable, Continues, world, committed, is_cut_off}
 use Rattle.dn_world.proofs.Cases.{playable_from}
 use Rattle.dn_world.proofs.Past.{horizon_least}
-use Rattle.dn_world.proofs.Prefix.{committed_front, cut_off_is_cut}
+use Rattle.dn_world.proofs.Prefix.{cut_off_is_cut, cut_committed}
 use Rattle.dn_world.proofs.Quiet.{quiet_parts}
 use Rattle.dn_world.proofs.Sound.{world_sound}
 use Rattle.dn_world.proofs.Uses.{key_same}
@@ -27,9 +24,6 @@ use Rattle.dn_drive.specs.declared.ended.Ended.TheVariants.{Whole, Open}
 use Rattle.dn_drive.specs.Allowed.{end_of}
 use Rattle.dn_drive.specs.Endings.{IsFed, IsWholeRun, IsCutRun, IsOpenRun, StandsAt}
 use Rattle.dn_drive.proofs.Going.{Goes, IsOn, not_past}
-
-front_full : {X : Type 0} (n : ℕ) (xs ys : List X) → length xs ≡ n → take n (xs ++ ys) ≡ xs
-front_full n xs ys e = ap (λ k. take k (xs ++ ys)) (sym e) ∙ take-append_seam xs ys
 
 module _ {S : Type 0} (net : Network S) (feed : List External) where
   fed_is : (f : Fabric S) (xs : List External) → IsOn net feed f xs → f.live.stopped ≡ false → IsFed net feed xs f
@@ -72,16 +66,6 @@ module _ {S : Type 0} (net : Network S) (feed : List External) where
   continues : (h : Heading) (w : World) (xs : List External) → Goes h feed w xs → Continues feed w
   continues h w xs g = record { further = xs; whole = g.whole; not_past = not_past h w.floor xs g.rules; no_more = g.no_more }
 
-  full : (w : World) → is_cut_off net w ≡ true → length (committed net w) ≡ row_limit
-  unfolding committed is_cut_off
-  full w h =
-      let more : row_limit < length (settled_rows net w) = ltb-true row_limit (length (settled_rows net w)) h in
-      length-take-le row_limit (settled_rows net w) (omega arith)
-
-  front_shown : (w : World) → is_cut_off net w ≡ true → IsPrefixOf (committed net w) (rows net feed) → committed net w ≡ shown_rows net feed
-  unfolding shown_rows
-  front_shown w h p = sym (ap (take row_limit) (sym p.1) ∙ front_full row_limit (committed net w) p.0 (full w h))
-
   pub cut_run : (h : Heading) → net.header ≡ h → IsRecording (record { header = h; feed = feed }) → (f : Fabric S) (xs : List External) → IsOn net feed f xs → f.live.stopped ≡ false → f.live.cut ≡ true → IsCutRun net feed f
   cut_run h e is f xs o r c =
       let play : IsPlayable net.header = subst IsPlayable (sym e) (playable_from h is.header) in
@@ -90,7 +74,7 @@ module _ {S : Type 0} (net : Network S) (feed : List External) where
       let sound = world_sound net play f.journal o.reached.legal in
       let goes : Continues feed w = subst (Continues feed) (sym o.reached.world) (continues net.header f.live.world xs o.goes) in
       let off : is_cut_off net w ≡ true = ap (is_cut_off net) o.reached.world ∙ sym o.reached.cut ∙ c in
-      let shown : committed net w ≡ shown_rows net feed = front_shown w off (committed_front net feed play fed w sound goes) in
+      let shown : committed net w ≡ shown_rows net feed = cut_committed net feed play fed w sound goes off in
       record {
         rest = xs;
         fed = fed_is f xs o r;

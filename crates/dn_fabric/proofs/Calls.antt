@@ -36,7 +36,7 @@ module _ {S : Type 0} (guests : Meaning S) where
   rules_of f net holds is = subst IsHeading (sym is.header) holds.rules
 
   pub the_network : (f : Fabric S) → IsFabric guests f → (net : Network S) × IsNetworkOf net guests f.live.header f.live.openings
-  the_network f holds = some_network guests f.live.header f.live.openings holds.rules holds.openings
+  the_network f holds = some_network guests f.live.header f.live.openings holds.rules.some holds.openings
 
   -- a router that is leased is one of them
   pub leased_inside : (f : Fabric S) → IsFabric guests f → (r : ℕ) → get_or f.leased r false ≡ true → r < length f.live.header.routers

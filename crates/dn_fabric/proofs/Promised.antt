@@ -7,14 +7,14 @@ use Rattle.dn_model.specs.declared.feed.External.{External}
 use Rattle.dn_model.specs.Cases.{IsHeading}
 use Rattle.dn_model.specs.Order.{event_cmp}
 use Rattle.dn_model.specs.Network.{Network, Family, injected, is_at, routers, sent, sent_to, state}
-use Rattle.dn_model.specs.Settled.{IsFeedOf, IsPrefixOf, IsSettled, IsSettledBelow, below, due, lockstep, rows, is_cut}
+use Rattle.dn_model.specs.Settled.{IsFeedOf, IsPrefixOf, IsSettled, IsSettledBelow, below, due, lockstep, rows, shown_rows, is_cut}
 use Rattle.dn_model.proofs.Rows.{joined_same}
 use Rattle.dn_model.proofs.Waves.{lockstep_settled, lockstep_settled_below, no_other_settled, no_other_settled_below}
 use Rattle.dn_world.specs.World.{part, dones, is_same, is_quiet}
 use Rattle.dn_world.specs.Runs.{Continues, IsPlayable, world, committed, is_cut_off}
 use Rattle.dn_world.proofs.Cases.{playable_from}
 use Rattle.dn_world.proofs.Sound.{IsSound, world_sound}
-use Rattle.dn_world.proofs.Prefix.{committed_front, committed_at_front, committed_state_is, cut_off_is_cut}
+use Rattle.dn_world.proofs.Prefix.{committed_front, committed_at_front, committed_state_is, cut_off_is_cut, cut_committed}
 use Rattle.dn_world.proofs.Unsent.{no_unsent, all_sent_as_often}
 use Rattle.dn_world.proofs.Quiet.{no_voids, quiet_lockstep, quiet_committed, quiet_cut}
 use Rattle.dn_fabric.specs.Fabrics.{Fabric, IsReached}
@@ -63,6 +63,9 @@ module _ {S : Type 0} (net : Network S) (f : Fabric S) (rules : IsHeading net.he
 
   pub cut_final : (feed : List External) → IsFeedOf net.header feed → Continues feed f.live.world → f.live.cut ≡ true → is_cut net feed ≡ true
   cut_final feed fed goes cut = cut_off_is_cut net feed playable fed f.live.world sound goes (sym reached.cut ∙ cut)
+
+  pub cut_shown : (feed : List External) → IsFeedOf net.header feed → Continues feed f.live.world → f.live.cut ≡ true → f.live.rows ≡ shown_rows net feed
+  cut_shown feed fed goes cut = reached.rows ∙ cut_committed net feed playable fed f.live.world sound goes (sym reached.cut ∙ cut)
 
   rows_of_run : f.live.rows ≡ committed net (world net f.journal)
   rows_of_run = reached.rows ∙ ap (committed net) (sym reached.world)

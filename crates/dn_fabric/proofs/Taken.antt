@@ -1,5 +1,5 @@
 -- The steps that the calls of a fabric take.
-use Rattle.std.proofs.Common.{◌≡◌, ℕ, ◌+◌, ◌<◌, ◌≤◌, Bool, true, false, ◌||◌, List, [], ◌∷◌, ◌++◌, length, take, sym, ap, ◌∙◌, subst, arith, set, length-take, length-append}
+use Rattle.std.proofs.Common.{◌≡◌, ℕ, ◌+◌, ◌<◌, ◌≤◌, Bool, true, false, ◌||◌, List, [], ◌∷◌, ◌++◌, length, take, refl, sym, ap, ◌∙◌, subst, arith, set, length-take, length-append}
 use Rattle.std.specs.Prelude.{nat_lt, slice_get, if◌then◌else◌, Result, Ok, IfOk, is_ok}
 use Rattle.std.proofs.Math.ListN.{length-set}
 use Rattle.dn_guest.specs.Meaning.{Meaning}
@@ -13,7 +13,9 @@ use Rattle.dn_world.specs.World.{part, is_behind, is_ready}
 use Rattle.dn_world.specs.Steps.{is_enabled, is_injectable, after, beacon, inject, deliver, taken_off}
 use Rattle.std.specs.List.{AllByRecursion}
 use Rattle.dn_world.specs.Runs.{IsPast, settled_rows, fresh_rows}
-use Rattle.dn_fabric.specs.Fabrics.{Live, Fabric, HasStepped, HasStopped, live_after, stepped, with_lease}
+use Rattle.dn_world.specs.Logs.{log_of}
+use Rattle.dn_world.proofs.LogLists.{log-push}
+use Rattle.dn_fabric.specs.Fabrics.{Live, Fabric, HasStepped, HasNoted, HasStopped, live_after, stepped, with_lease}
 use Rattle.dn_fabric.specs.Holds.{IsFabric}
 use Rattle.dn_fabric.proofs.Stepping.{shown_front, live_kept, live_grown, taken_off_late}
 use Rattle.dn_fabric.proofs.Calls.{OfEach, the_network, leased_holds, taken, taken_holds, halted_over}
@@ -27,6 +29,7 @@ fab l j leased = record { live = l; journal = j; leased = leased }
 pub record IsTaken {S : Type 0} (guests : Meaning S) (f : Fabric S) (s : Step) (now : Fabric S) : Type 0 where
   pub holds : IsFabric guests now
   pub stepped : OfEach guests f (λ net. HasStepped net f s now)
+  pub noted : HasNoted f s now
 
 -- what a Commit leaves
 abbrev pub committed_live : {S : Type 0} → Network S → Live S → Live S
@@ -41,9 +44,19 @@ module _ {S : Type 0} (guests : Meaning S) (f : Fabric S) (holds : IsFabric gues
   all_taken : (s : Step) (l : Live S) (j : List Step) → OfEach guests f (λ net. is_enabled net f.live.world s ≡ true) → OfEach guests f (λ net. l ≡ live_after net f.live s) → j ≡ f.journal ++ s ∷ [] → IsTaken guests f s (fab l j f.leased)
   all_taken s l j enabled is noted =
       let whole : OfEach guests f (λ net. fab l j f.leased ≡ stepped net f s) = λ net of i. fab (is net of i) (noted i) f.leased in
+      let found = the_network guests f holds in
+      let stopped : l.stopped ≡ f.live.stopped = ap (λ (x : Live S). x.stopped) (is found.0 found.1) in
       record {
         holds = taken_holds guests f (fab l j f.leased) s holds running enabled whole;
         stepped = taken guests f (fab l j f.leased) s holds running enabled whole;
+        noted = record {
+          journal = noted;
+          header = ap (λ (x : Live S). x.header) (is found.0 found.1);
+          openings = ap (λ (x : Live S). x.openings) (is found.0 found.1);
+          leased = refl;
+          stopped = stopped;
+          log = (λ i. log_of (noted i) (stopped i)) ∙ log-push f.journal f.live.stopped s running;
+        };
       }
 
   -- a step that leaves the boundary where it is

@@ -9,12 +9,17 @@ use Rattle.dn_fabric.specs.declared.answer.Moved.{Moved}
 use Rattle.dn_fabric.specs.declared.answer.Moved.TheVariants as moved
 use Rattle.dn_fabric.specs.declared.answer.Finished.{Finished}
 use Rattle.dn_fabric.specs.declared.answer.Finished.TheVariants.{Applied, Stale}
-use Rattle.dn_fabric.specs.Fabrics.{Live, Fabric, router_of, HasStepped, with_lease}
+use Rattle.dn_fabric.specs.Fabrics.{Live, Fabric, router_of, HasStepped, HasNoted, with_lease}
 
 -- a Commit: so many rows were added; or the trace is cut
 abbrev pub HasMoved : {S : Type 0} → Fabric S → Moved → Fabric S → Type 0
 HasMoved before (moved.Moved n) now = (now.live.cut ≡ false) × (length now.live.rows ≡ length before.live.rows + n)
 HasMoved before moved.Cut now = now.live.cut ≡ true
+
+-- an outcome came back: the lease of its router ends; where it was applied its Handle was noted, and where it was stale nothing else has changed
+abbrev pub HasEnded : {S : Type 0} → Fabric S → Task S → Finished → Fabric S → Type 0
+HasEnded before task Applied now = HasNoted (with_lease before task.router false) (Handle task.router) now
+HasEnded before task Stale now = now ≡ with_lease before task.router false
 
 module _ {S : Type 0} (net : Network S) where
   -- the task is the order that its router would give now

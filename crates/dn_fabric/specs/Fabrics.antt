@@ -6,9 +6,12 @@ use Rattle.dn_model.specs.Cases.{Heading, timing_of}
 use Rattle.dn_model.specs.Links.{ends}
 use Rattle.dn_model.specs.Network.{Network, opening_node, routers}
 use Rattle.dn_model.specs.Settled.{IsPrefixOf, below}
+use Rattle.dn_world.specs.declared.entry.Entry.{Entry}
+use Rattle.dn_world.specs.declared.entry.Entry.TheVariants.{Did}
 use Rattle.dn_world.specs.declared.step.Step.{Step}
 use Rattle.dn_world.specs.World.{World, part, opening, horizon}
 use Rattle.dn_world.specs.Steps.{after}
+use Rattle.dn_world.specs.Logs.{log_of}
 use Rattle.dn_world.specs.Runs.{IsLegal, IsBalanced, IsAllPast, IsPast, world, committed, is_cut_off}
 use Rattle.dn_router.specs.Routers.{Speculation}
 
@@ -76,6 +79,19 @@ module _ {S : Type 0} (net : Network S) where
     pub onward : IsPast (horizon net.header before.live.world) (horizon net.header now.live.world)
     pub grown : IsPrefixOf before.live.rows now.live.rows
     pub stays_cut : before.live.cut ≡ true → now.live.cut ≡ true
+
+-- the log of a fabric: the steps of its journal, and behind them the mark Stop where it was stopped
+abbrev pub log_in : {S : Type 0} → Fabric S → List Entry
+log_in f = log_of f.journal f.live.stopped
+
+-- a step was noted: it is the last of the journal and of the log, and header, openings, leases and the mark of a stop are those from before
+pub record HasNoted {S : Type 0} (before : Fabric S) (s : Step) (now : Fabric S) : Type 0 where
+  pub journal : now.journal ≡ before.journal ++ s ∷ []
+  pub header : now.live.header ≡ before.live.header
+  pub openings : now.live.openings ≡ before.live.openings
+  pub leased : now.leased ≡ before.leased
+  pub stopped : now.live.stopped ≡ before.live.stopped
+  pub log : log_in now ≡ log_in before ++ Did s ∷ []
 
 -- no memory was found, in the middle of a call: nothing more is done, and the network is the one from before
 pub record HasHalted {S : Type 0} (before now : Live S) : Type 0 where

@@ -6,3 +6,4 @@ pub mod Answers
 pub mod Promises
 pub mod Work
 pub mod Commits
+pub mod Signs

@@ -11,9 +11,9 @@ ghost use Rattle.dn_world.specs.Runs.{IsPast};
 ghost use Rattle.dn_fabric.specs.Coming.{all_ticked, AreAsBefore};
 ghost use Rattle.dn_fabric.specs.Fabrics.{HasHalted};
 
-use crate::world::{World, marking, tick};
+use crate::world::{World, marking};
 use dn_guest::{Guest, NoMemory};
-use dn_model::{Event, External, Key};
+use dn_model::{Event, External};
 use dn_router::Router;
 use std::alloc::Global;
 
@@ -87,7 +87,7 @@ fn tick_all<G: Guest>(routers: &mut [Router<G>], group: u32) -> Result<(), NoMem
     ensures err { OnErr result (AreAsBefore routers.old routers.new) }
 {
     for number in 0..routers.len() {
-        routers[number].arrive(true, tick(group, number as u16))?;
+        routers[number].arrive(true, Event::tick(group, number as u16))?;
     }
     Ok(())
 }
@@ -104,23 +104,8 @@ fn bring<G: Guest>(
     ensures ok { OnOk result (router.new ≡ record router.old { part = with_todo (external place coming.now ∷ []) router.old.part }) }
     ensures err { OnErr result (router.new ≡ router.old) }
 {
-    let input = coming.input.copy(alloc)?;
-    let key = Key {
-        group: coming.group,
-        sum: 0,
-        class: 1,
-        tie: 0,
-        origin: coming.router,
-        seq: place,
-    };
-    router.arrive(
-        true,
-        Event {
-            key,
-            router: coming.router,
-            input,
-        },
-    )
+    let event = Event::external(alloc, place, coming)?;
+    router.arrive(true, event)
 }
 
 /// One external more.

@@ -1,6 +1,7 @@
 //! The fabric: a world with the journal of the steps that led there.
 
 ghost use Rattle.std.specs.Prelude.{◌≡◌, true, false, length, IfOk};
+ghost use Rattle.dn_model.specs.Cases.{IsHeading};
 ghost use Rattle.dn_model.specs.Network.{Network};
 ghost use Rattle.dn_world.specs.World.{horizon};
 ghost use Rattle.dn_world.specs.Runs.{IsLegal};
@@ -9,7 +10,7 @@ ghost use Rattle.dn_fabric.specs.Fabrics.{IsNetworkOf, IsReached, opening_fabric
 use crate::world::World;
 use dn_guest::{Guest, NoMemory, Node};
 use dn_model::{External, Header, Key, Row};
-use dn_world::Step;
+use dn_world::{Kept, Step};
 use std::alloc::Global;
 use std::marker::Model;
 
@@ -33,6 +34,21 @@ impl<G: Guest> Model for Fabric<G> {
     ghost view = { λ f. record { live = f.world; journal = f.journal.items; leased = f.leased.items } };
 
     ghost invariant = { λ f. IsFabric G.meaning (record { live = f.world; journal = f.journal.items; leased = f.leased.items }) };
+}
+
+impl<G: Guest> Kept for Fabric<G> {
+    ghost use Rattle.std.specs.Prelude.{refl};
+    ghost use Rattle.dn_fabric.specs.Fabrics.{log_in};
+
+    type Guest = G;
+
+    ghost header = { λ f. f.live.header };
+
+    ghost opening = { λ f. f.live.openings };
+
+    ghost log = { λ f. log_in f };
+
+    ghost is_log = { λ f. record { steps = f.journal; stopped = f.live.stopped; is = refl } };
 }
 
 impl<G: Guest> Fabric<G> {
@@ -59,11 +75,13 @@ impl<G: Guest> Fabric<G> {
         self.world.header()
     }
 
-    /// The steps so far: a legal run, also of a fabric that was stopped. There are an opening guest and a lease
-    /// for each router, so a network of the fabric exists.
+    /// The steps so far: a legal run, also of a fabric that was stopped. The header meets the rules, there are an
+    /// opening guest and a lease for each router, and a network of the fabric exists.
     pub fn journal(&self) -> &[Step]
         ensures journal { result.now ≡ self.now.journal }
         ensures legal { (net : Network G) → IsNetworkOf net G.meaning self.now.live.header self.now.live.openings → IsLegal net self.now.journal }
+        ensures rules { IsHeading self.now.live.header }
+        ensures network { (net : Network G) × IsNetworkOf net G.meaning self.now.live.header self.now.live.openings }
         ensures one_each { length self.now.live.openings ≡ length self.now.live.header.routers }
         ensures leases { length self.now.leased ≡ length self.now.live.header.routers }
         ensures reached { (net : Network G) → IsNetworkOf net G.meaning self.now.live.header self.now.live.openings → self.now.live.stopped ≡ false → IsReached net self.now }

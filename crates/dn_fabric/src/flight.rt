@@ -4,6 +4,7 @@ ghost use Rattle.std.specs.Prelude.{◌≡◌, ◌<◌, ◌++◌, ◌∷◌, [],
 ghost use Rattle.std.specs.List.{remove};
 ghost use Rattle.dn_world.specs.World.{flying, least_key};
 ghost use Rattle.dn_world.specs.Steps.{signed};
+ghost use Rattle.dn_fabric.specs.Signs.{is_plus};
 
 use dn_guest::NoMemory;
 use dn_model::{Event, Key};
@@ -11,6 +12,26 @@ use dn_world::Packet;
 use std::alloc::Global;
 use std::collections::VecDeque;
 use std::marker::Model;
+
+/// As what events fly.
+#[derive(Clone, Copy, Debug)]
+pub(crate) enum Sign {
+    /// As messages.
+    Plus,
+    /// As the unsends of messages.
+    Minus,
+}
+
+impl Sign {
+    fn is_plus(self) -> bool
+        ensures { result ≡ is_plus self }
+    {
+        match self {
+            Sign::Plus => true,
+            Sign::Minus => false,
+        }
+    }
+}
 
 /// The packets between routers, in the order of sending.
 #[derive(Drop)]
@@ -38,11 +59,11 @@ impl Flight {
     }
 
     #[tactic(auto, unfolding(dn_world::specs::Steps::signed))]
-    /// The events fly last, in order: as messages (`plus`), or as their unsends. After `NoMemory` some of
-    /// them may fly.
-    pub(crate) fn send(&mut self, plus: bool, events: Vec<Event>) -> Result<(), NoMemory>
-        ensures { OnOk result (self.new ≡ self.old ++ signed plus events.items) }
+    /// The events fly last, in order, with this sign. After `NoMemory` some of them may fly.
+    pub(crate) fn send(&mut self, sign: Sign, events: Vec<Event>) -> Result<(), NoMemory>
+        ensures { OnOk result (self.new ≡ self.old ++ signed (is_plus sign) events.items) }
     {
+        let plus = sign.is_plus();
         self.packets.reserve(events.len())?;
         for event in events {
             push(&mut self.packets, Packet { plus, event })?;

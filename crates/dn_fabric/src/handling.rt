@@ -10,6 +10,7 @@ ghost use Rattle.dn_fabric.specs.Fabrics.{IsNetworkOf, HasHalted, router_of};
 ghost use Rattle.dn_fabric.specs.Answers.{HasHandled};
 
 use crate::answer::Finished;
+use crate::flight::Sign;
 use crate::world::{World, marking};
 use dn_guest::{Guest, NoMemory};
 use dn_router::{Applied, Order, Outcome};
@@ -34,7 +35,7 @@ impl<G: Guest> World<G> {
         let applied = self.routers[usize::from(outcome.router())].apply(outcome);
         match marking(&mut self.stopped, applied)? {
             Applied::Done(events) => {
-                let sent = self.flight.send(true, events);
+                let sent = self.flight.send(Sign::Plus, events);
                 marking(&mut self.stopped, sent)?;
                 Ok(Finished::Applied)
             }
@@ -52,7 +53,7 @@ impl<G: Guest> World<G> {
     {
         let unsent = self.routers[usize::from(router)].roll_back();
         let unsent = marking(&mut self.stopped, unsent)?;
-        let sent = self.flight.send(false, unsent);
+        let sent = self.flight.send(Sign::Minus, unsent);
         marking(&mut self.stopped, sent)
     }
 }

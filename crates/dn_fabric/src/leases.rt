@@ -6,7 +6,7 @@ ghost use Rattle.dn_model.specs.Network.{Network};
 ghost use Rattle.dn_router.specs.Routers.{order_of};
 ghost use Rattle.dn_world.specs.World.{part, is_ready};
 ghost use Rattle.dn_fabric.specs.Fabrics.{IsNetworkOf, HasStopped, router_of, with_lease};
-ghost use Rattle.dn_fabric.specs.Answers.{HasFinished};
+ghost use Rattle.dn_fabric.specs.Answers.{HasEnded, HasFinished};
 
 use crate::answer::Finished;
 use crate::fabric::Fabric;
@@ -39,6 +39,7 @@ impl<G: Guest> Fabric<G> {
         requires running { self.old.live.stopped ≡ false }
         requires leased { get_or self.old.leased outcome.router false ≡ true }
         ensures ok { (net : Network G) → IsNetworkOf net G.meaning self.old.live.header self.old.live.openings → IfOk result (λ finished. HasFinished net self.old outcome finished self.new) }
+        ensures noted { IfOk result (λ finished. HasEnded self.old outcome finished self.new) }
         ensures err { OnErr result (HasStopped self.old self.new) }
     {
         let router = outcome.router();

@@ -19,15 +19,17 @@
 //! | `world.rt` | the layer below: routers and flight, without journal and leases |
 //! | `coming.rt`, `handling.rt`, `committing.rt` | its steps: what comes to routers, what routers do, the horizon and committing |
 //! | `flight.rt` | the packets between routers |
+//! | `laws.rt` | a network of each header exists; what a stop leaves of the log |
 //!
 //! The definitions: `specs/Fabrics.antt` (a fabric as plain data, and what each call makes of it),
 //! `specs/Promises.antt` (what is promised of its rows and of its end), `specs/Answers.antt`,
 //! `specs/Work.antt`. They stand on those of `dn_world`: worlds, steps, legal runs.
 //!
 //! The one contract upwards: each call that is a step is that step of a world, and stands last in the journal
-//! (`HasStepped`), and the journal is a legal run that leads to the fabric's world (`IsReached`). So whatever
-//! holds of every legal run holds of every fabric, in whatever order its calls came: what it has committed is
-//! final, no unsent message stands in it, and a quiet fabric has done the lockstep run.
+//! (`HasStepped`; what of that names no network, `HasNoted`), and the journal is a legal run that leads to the
+//! fabric's world (`IsReached`). So whatever holds of every legal run holds of every fabric, in whatever order
+//! its calls came: what it has committed is final, no unsent message stands in it, and a quiet fabric has done
+//! the lockstep run. A fabric keeps a log (`dn_world::Kept`): its journal, and behind it the mark of a stop.
 //!
 //! After want of memory of a call that changes a fabric it is stopped: it has the header and the journal from
 //! before, and nothing else is said of it. Horizon, journal, leases and the order of work are this project's own.
@@ -39,6 +41,7 @@ mod committing;
 mod fabric;
 mod flight;
 mod handling;
+pub mod laws;
 mod leases;
 mod promises;
 mod steps;

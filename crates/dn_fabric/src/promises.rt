@@ -3,7 +3,7 @@
 ghost use Rattle.std.specs.Prelude.{◌≡◌, ◌<◌, ◌≤◌, List, true, false, length, drop};
 ghost use Rattle.dn_model.specs.declared.feed.External.{External};
 ghost use Rattle.dn_model.specs.Network.{Network, state};
-ghost use Rattle.dn_model.specs.Settled.{IsFeedOf, lockstep, is_cut};
+ghost use Rattle.dn_model.specs.Settled.{IsFeedOf, lockstep, shown_rows, is_cut};
 ghost use Rattle.dn_world.specs.World.{part, is_quiet};
 ghost use Rattle.dn_world.specs.Runs.{Continues, committed, is_cut_off};
 ghost use Rattle.dn_fabric.specs.Fabrics.{IsNetworkOf};
@@ -29,11 +29,12 @@ impl<G: Guest> Fabric<G> {
     }
 
     /// Whether more rows stand below the boundary than a trace shows. The lockstep run of every case that goes
-    /// on where the fabric's world is is then cut too.
+    /// on where the fabric's world is is then cut too, and the committed rows are just those that its trace shows.
     pub fn is_cut(&self) -> bool
         ensures cut { result ≡ self.now.live.cut }
         ensures committed { (net : Network G) → IsNetworkOf net G.meaning self.now.live.header self.now.live.openings → self.now.live.stopped ≡ false → result ≡ is_cut_off net self.now.live.world }
         ensures prefix { (net : Network G) (feed : List External) → IsNetworkOf net G.meaning self.now.live.header self.now.live.openings → self.now.live.stopped ≡ false → IsFeedOf net.header feed → Continues feed self.now.live.world → result ≡ true → is_cut net feed ≡ true }
+        ensures shown { (net : Network G) (feed : List External) → IsNetworkOf net G.meaning self.now.live.header self.now.live.openings → self.now.live.stopped ≡ false → IsFeedOf net.header feed → Continues feed self.now.live.world → result ≡ true → self.now.live.rows ≡ shown_rows net feed }
     {
         self.world.is_cut()
     }

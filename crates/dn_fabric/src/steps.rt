@@ -7,7 +7,7 @@ ghost use Rattle.dn_world.specs.declared.step.Step.TheVariants.{Beacon, Inject, 
 ghost use Rattle.dn_world.specs.World.{part, is_behind};
 ghost use Rattle.dn_world.specs.Steps.{is_injectable, taken_off};
 ghost use Rattle.dn_world.specs.Runs.{IsPast};
-ghost use Rattle.dn_fabric.specs.Fabrics.{IsNetworkOf, HasStepped, HasStopped};
+ghost use Rattle.dn_fabric.specs.Fabrics.{IsNetworkOf, HasStepped, HasNoted, HasStopped};
 ghost use Rattle.dn_fabric.specs.Answers.{HasMoved};
 
 use crate::answer::Moved;
@@ -24,6 +24,7 @@ impl<G: Guest> Fabric<G> {
         requires unclosed { self.old.live.world.closed ≡ false }
         requires left { self.old.live.world.floor + 1 < self.old.live.header.groups }
         ensures ok { (net : Network G) → IsNetworkOf net G.meaning self.old.live.header self.old.live.openings → OnOk result (HasStepped net self.old Beacon self.new) }
+        ensures noted { OnOk result (HasNoted self.old Beacon self.new) }
         ensures err { OnErr result (HasStopped self.old self.new) }
     {
         self.world.beacon()?;
@@ -40,6 +41,7 @@ impl<G: Guest> Fabric<G> {
         requires inside { router < length self.old.live.header.routers }
         requires asked { is_injectable self.old.live.header router input ≡ true }
         ensures ok { (net : Network G) → IsNetworkOf net G.meaning self.old.live.header self.old.live.openings → OnOk result (HasStepped net self.old (Inject (record { group = self.old.live.world.floor; router = router; input = input })) self.new) }
+        ensures noted { OnOk result (HasNoted self.old (Inject (record { group = self.old.live.world.floor; router = router; input = input })) self.new) }
         ensures err { OnErr result (HasStopped self.old self.new) }
     {
         let external = External {
@@ -60,6 +62,7 @@ impl<G: Guest> Fabric<G> {
         requires unclosed { self.old.live.world.closed ≡ false }
         requires last { self.old.live.world.floor + 1 ≡ self.old.live.header.groups }
         ensures ok { (net : Network G) → IsNetworkOf net G.meaning self.old.live.header self.old.live.openings → OnOk result (HasStepped net self.old Close self.new) }
+        ensures noted { OnOk result (HasNoted self.old Close self.new) }
         ensures err { OnErr result (HasStopped self.old self.new) }
     {
         self.world.close();
@@ -72,6 +75,7 @@ impl<G: Guest> Fabric<G> {
         requires running { self.old.live.stopped ≡ false }
         requires there { place < length self.old.live.world.flight }
         ensures ok { (net : Network G) → IsNetworkOf net G.meaning self.old.live.header self.old.live.openings → OnOk result (HasStepped net self.old (Deliver place) self.new) }
+        ensures noted { OnOk result (HasNoted self.old (Deliver place) self.new) }
         ensures err { OnErr result (HasStopped self.old self.new) }
     {
         self.world.deliver(place)?;
@@ -86,6 +90,7 @@ impl<G: Guest> Fabric<G> {
         requires inside { router < length self.old.live.header.routers }
         requires behind { is_behind (part self.old.live.world router) ≡ true }
         ensures ok { (net : Network G) → IsNetworkOf net G.meaning self.old.live.header self.old.live.openings → OnOk result (HasStepped net self.old (RollBack router) self.new) }
+        ensures noted { OnOk result (HasNoted self.old (RollBack router) self.new) }
         ensures late { (net : Network G) → IsNetworkOf net G.meaning self.old.live.header self.old.live.openings → AllByRecursion (λ e. IsPast self.old.live.world.boundary e.key) (taken_off net (part self.old.live.world router)) }
         ensures err { OnErr result (HasStopped self.old self.new) }
     {
@@ -98,6 +103,7 @@ impl<G: Guest> Fabric<G> {
     pub fn commit(&mut self) -> Result<Moved, NoMemory>
         requires running { self.old.live.stopped ≡ false }
         ensures ok { (net : Network G) → IsNetworkOf net G.meaning self.old.live.header self.old.live.openings → OnOk result (HasStepped net self.old Commit self.new) }
+        ensures noted { OnOk result (HasNoted self.old Commit self.new) }
         ensures answer { IfOk result (λ moved. HasMoved self.old moved self.new) }
         ensures err { OnErr result (HasStopped self.old self.new) }
     {

@@ -1,13 +1,13 @@
 //! Routers that speculate, and what flies between them: a world, as code.
 
 ghost use Rattle.std.specs.Prelude.{◌≡◌, ◌<◌, ◌≤◌, true, length, map, if◌then◌else◌, is_ok, IfOk};
-ghost use Rattle.dn_model.specs.Network.{Network, tick};
+ghost use Rattle.dn_model.specs.Network.{Network};
 ghost use Rattle.dn_world.specs.World.{part};
 ghost use Rattle.dn_fabric.specs.Fabrics.{IsNetworkOf, opening_live, router_of};
 ghost use Rattle.dn_fabric.specs.Openings.{router_before, routers_from};
 
 use crate::flight::Flight;
-use dn_guest::{Guest, Input, NoMemory};
+use dn_guest::{Guest, NoMemory};
 use dn_model::{Event, External, Header, Key, Row, ends, opening};
 use dn_router::Router;
 use std::alloc::Global;
@@ -220,24 +220,6 @@ fn opening_router<G: Guest>(
         header.timing(),
         node,
     )?;
-    router.arrive(true, tick(0, number))?;
+    router.arrive(true, Event::tick(0, number))?;
     Ok(router)
-}
-
-/// The tick of a group at a router.
-pub(crate) fn tick(group: u32, router: u16) -> Event
-    ensures { result ≡ tick group router }
-{
-    Event {
-        key: Key {
-            group,
-            sum: 0,
-            class: 0,
-            tie: 0,
-            origin: router,
-            seq: 0,
-        },
-        router,
-        input: Input::Tick(group),
-    }
 }

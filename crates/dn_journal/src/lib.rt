@@ -22,6 +22,6 @@ mod read;
 mod step_lines;
 mod write;
 
-pub use dn_world::Step;
+pub use dn_world::{Entry, Kept, Step};
 pub use read::read_journal;
 pub use write::write_journal;

@@ -3,15 +3,15 @@
 
 ghost use Rattle.std.specs.Prelude.{◌≡◌, ◌↔◌, ◌<◌, IsTrue, [], ◌∷◌, ◌++◌, true, length, IfOk, IfSome, IfNone, OnOk, OnErr};
 ghost use Rattle.std.specs.List.Sorted.{IsPermutation};
-ghost use Rattle.dn_model.specs.Network.{tick, external, externals};
+ghost use Rattle.dn_model.specs.Network.{externals};
 ghost use Rattle.dn_model.specs.SoFar.{by_router};
 ghost use Rattle.dn_lockstep.specs.Running.{messages};
 ghost use Rattle.dn_lockstep.specs.Least.{IsLeast, IsUpTo};
 ghost use Rattle.dn_lockstep.specs.Agendas.{waiting_in, count_before, group_ticks, later_ticks, IsFronted};
 
 use crate::queue::EventQueue;
-use dn_guest::{Input, NoMemory};
-use dn_model::{Event, External, Header, Key};
+use dn_guest::NoMemory;
+use dn_model::{Event, External, Header};
 use std::alloc::Global;
 use std::marker::Model;
 
@@ -126,27 +126,9 @@ fn push_ticks(queue: &mut EventQueue, group: u32, routers: u16) -> Result<(), No
     ensures { OnOk result (IsPermutation (queue.old ++ group_ticks group routers) queue.new) }
 {
     for router in 0..routers {
-        queue.push(tick(group, router))?;
+        queue.push(Event::tick(group, router))?;
     }
     Ok(())
-}
-
-/// The tick of a group at a router.
-pub fn tick(group: u32, router: u16) -> Event
-    ensures { result ≡ tick group router }
-{
-    Event {
-        key: Key {
-            group,
-            sum: 0,
-            class: 0,
-            tie: 0,
-            origin: router,
-            seq: 0,
-        },
-        router,
-        input: Input::Tick(group),
-    }
 }
 
 /// The externals of a feed in a queue.
@@ -155,25 +137,7 @@ fn queued_externals(alloc: Global, feed: &[External]) -> Result<EventQueue, NoMe
 {
     let mut made = EventQueue::new(alloc);
     for (place, item) in feed.iter().enumerate() {
-        made.push(external(alloc, place as u64, item)?)?;
+        made.push(Event::external(alloc, place as u64, item)?)?;
     }
     Ok(made)
-}
-
-/// The event of the external at this place of the feed.
-pub fn external(alloc: Global, place: u64, item: &External) -> Result<Event, NoMemory>
-    ensures { IfOk result (λ made. made ≡ external place item.now) }
-{
-    Ok(Event {
-        key: Key {
-            group: item.group,
-            sum: 0,
-            class: 1,
-            tie: 0,
-            origin: item.router,
-            seq: place,
-        },
-        router: item.router,
-        input: item.input.copy(alloc)?,
-    })
 }

@@ -18,7 +18,7 @@
 //! | `opening.rt` | the nodes before the first event |
 //!
 //! `dn_plain` has the same run from one plain list of what waits, and runs it beside this engine. For it
-//! `external`, `tick` and `opening_nodes` are public.
+//! `opening_nodes` is public.
 //!
 //! The definitions that the contracts cite: `specs/Running.antt` (what an engine is as plain data, and
 //! what it means that it stands after the first rows of a network and a feed) and `specs/Answers.antt`
@@ -38,6 +38,5 @@ mod queued;
 mod step;
 mod wiring;
 
-pub use agenda::{external, tick};
 pub use engine::{Engine, Next};
 pub use opening::opening_nodes;

@@ -3,9 +3,10 @@
 ghost use Rattle.std.specs.Prelude.{◌≡◌, IfOk, refl};
 ghost use Rattle.std.specs.Cmp.{partial_equiv_from_equiv, eq_by_cmp_equiv, partial_order_from_total};
 ghost use Rattle.std.specs.Ordering.{as_partial_cmp, eq_by_cmp};
+ghost use Rattle.dn_model.specs.Network.{external, tick};
 ghost use Rattle.dn_model.specs.Order.{event_cmp, event_total};
 
-use crate::Key;
+use crate::{External, Key};
 use dn_guest::{Input, NoMemory};
 use std::alloc::Global;
 use std::cmp::Ordering;
@@ -23,6 +24,42 @@ pub struct Event {
 pub type Row = Event;
 
 impl Event {
+    /// The tick of a group at a router: at the begin of the group, of class 0.
+    pub fn tick(group: u32, router: u16) -> Event
+        ensures { result ≡ tick group router }
+    {
+        Event {
+            key: Key {
+                group,
+                sum: 0,
+                class: 0,
+                tie: 0,
+                origin: router,
+                seq: 0,
+            },
+            router,
+            input: Input::Tick(group),
+        }
+    }
+
+    /// The event of the external at this place of the feed, from 0: at the begin of its group, of class 1.
+    pub fn external(alloc: Global, place: u64, item: &External) -> Result<Event, NoMemory>
+        ensures { IfOk result (λ made. made ≡ external place item.now) }
+    {
+        Ok(Event {
+            key: Key {
+                group: item.group,
+                sum: 0,
+                class: 1,
+                tie: 0,
+                origin: item.router,
+                seq: place,
+            },
+            router: item.router,
+            input: item.input.copy(alloc)?,
+        })
+    }
+
     /// A copy.
     pub fn copy(&self, alloc: Global) -> Result<Event, NoMemory>
         ensures { IfOk result (λ made. made ≡ self.now) }

@@ -13,7 +13,7 @@ ghost use Rattle.dn_lockstep.specs.Steps.{AreInside, IsHandled};
 ghost use Rattle.dn_lockstep.specs.Answers.{answer_after, HasMoved};
 
 use dn_guest::{Guest, NoMemory, Node};
-use dn_lockstep::{Next, external, opening_nodes, tick};
+use dn_lockstep::{Next, opening_nodes};
 use dn_model::{Case, Event, External, Header, Row, emitted, row_limit};
 use std::alloc::{AllocError, Global};
 use std::marker::Model;
@@ -181,7 +181,7 @@ fn all_externals(alloc: Global, feed: &[External]) -> Result<Vec<Event>, NoMemor
 {
     let mut made = Vec::new(alloc);
     for (place, item) in feed.iter().enumerate() {
-        made.push(external(alloc, place as u64, item)?)?;
+        made.push(Event::external(alloc, place as u64, item)?)?;
     }
     Ok(made)
 }
@@ -192,7 +192,7 @@ fn push_ticks(events: &mut Vec<Event>, group: u32, routers: u16) -> Result<(), N
     ensures { OnOk result (events.new.items ≡ events.old.items ++ group_ticks group routers) }
 {
     for router in 0..routers {
-        events.push(tick(group, router))?;
+        events.push(Event::tick(group, router))?;
     }
     Ok(())
 }

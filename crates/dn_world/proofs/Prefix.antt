@@ -2,13 +2,14 @@
 use Rattle.std.proofs.Common.{◌≡◌, ℕ, zero, suc, ◌+◌, ◌<◌, ◌≤◌, Bool, true, false, ◌&&◌, eqb, ltb, List, [], ◌∷◌, ◌++◌, length, take, drop, refl, sym, ap, ◌∙◌, subst, arith, append_assoc, append-nil, take-append-drop, length-append}
 use Rattle.std.specs.List.{filter, AllByRecursion}
 use Rattle.std.proofs.lemmas.Bool.{eqb-true, eqb-false, eq-eqb, ltb-true, ltb-false, lt-ltb}
+use Rattle.std.proofs.lemmas.List.{length-take-le}
 use Rattle.std.proofs.lemmas.List.Sorted.{IsPermutation-refl}
 use Rattle.dn_model.specs.declared.key.Key.{Key}
 use Rattle.dn_model.specs.declared.event.Event.{Event}
 use Rattle.dn_model.specs.declared.feed.External.{External}
 use Rattle.dn_model.specs.Order.{event_cmp, event_total, is_below, sorted}
 use Rattle.dn_model.specs.Network.{Network, Family, tick, ticks, external, externals, injected, is_at, joined, routers, sent, sent_to, state}
-use Rattle.dn_model.specs.Settled.{IsTimed, IsFeedOf, IsPrefixOf, below, due, lockstep, rows, is_cut, row_limit, IsSettledBelow}
+use Rattle.dn_model.specs.Settled.{IsTimed, IsFeedOf, IsPrefixOf, below, due, lockstep, rows, shown_rows, is_cut, row_limit, IsSettledBelow}
 use Rattle.dn_lists.proofs.Lists.{by_test, all_weaker, all_append, all_filter, filter_append, filter_none, filter_all}
 use Rattle.dn_lists.proofs.Sorting.{count, count_none, count_filter, count_append, all_in_order, in_order_is}
 use Rattle.dn_model.proofs.EventOrder.{event_same}
@@ -241,3 +242,15 @@ module _ {S : Type 0} (net : Network S) (feed : List External) (playable : IsPla
       let len : length (settled_rows net w ++ settled_front.0) ≡ length (rows net feed) = ap length settled_front.1 in
       let sum = length-append (settled_rows net w) settled_front.0 in
       lt-ltb row_limit (length (rows net feed)) (omega (arith, more, len, sum))
+
+  cut_full : is_cut_off net w ≡ true → length (committed net w) ≡ row_limit
+  unfolding committed is_cut_off
+  cut_full h =
+      let more = ltb-true row_limit (length (settled_rows net w)) h in length-take-le row_limit (settled_rows net w) (omega (arith, more))
+
+  -- a cut world has committed just the rows that are shown
+  pub cut_committed : is_cut_off net w ≡ true → committed net w ≡ shown_rows net feed
+  unfolding shown_rows
+  cut_committed h =
+      let front = committed_front in
+      sym (take_front (committed net w) front.0) ∙ ap (λ n. take n (committed net w ++ front.0)) (cut_full h) ∙ ap (take row_limit) front.1

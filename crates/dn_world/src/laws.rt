@@ -2,7 +2,7 @@
 //! deliveries, handlings, rollbacks and commits. Each law is the contract of a function that does nothing;
 //! whoever needs one calls it.
 
-ghost use Rattle.std.specs.Prelude.{ℕ, if◌then◌else◌, ◌+◌, ◌≡◌, ◌<◌, ◌≤◌, true, false, List, [], ◌∷◌, ◌++◌, length, take};
+ghost use Rattle.std.specs.Prelude.{ℕ, Bool, if◌then◌else◌, ◌+◌, ◌≡◌, ◌<◌, ◌≤◌, true, false, List, [], ◌∷◌, ◌++◌, Some, length, map, slice_get, take};
 ghost use Rattle.std.specs.List.{AllByRecursion, count_by};
 ghost use Rattle.dn_model.specs.declared.event.Event.{Event};
 ghost use Rattle.dn_model.specs.declared.feed.External.{External};
@@ -11,11 +11,14 @@ ghost use Rattle.dn_model.specs.Cases.{Recording, IsRecording};
 ghost use Rattle.dn_model.specs.Network.{Network, routers, sent, sent_from, state, state_from};
 ghost use Rattle.dn_guest.specs.Node.{node_after};
 ghost use Rattle.dn_model.specs.Settled.{IsTimed, IsFeedOf, IsPrefixOf, lockstep, rows, shown_rows, is_cut};
+ghost use Rattle.dn_world.specs.declared.entry.Entry.{Entry};
+ghost use Rattle.dn_world.specs.declared.entry.Entry.TheVariants.{Did, Stop};
 ghost use Rattle.dn_world.specs.declared.step.Step.{Step};
 ghost use Rattle.dn_world.specs.declared.step.Step.TheVariants.{RollBack};
 ghost use Rattle.dn_world.specs.World.{Part, World, part, opening, horizon, is_quiet, is_same, stands, without, with_todo, with_void};
 ghost use Rattle.dn_world.specs.Steps.{is_enabled, after, emits, kept, taken_off};
-ghost use Rattle.dn_world.specs.Runs.{IsLegal, IsLegalOf, IsFedFrom, DontFall, world, injects, Continues, settled_rows, fresh_rows, committed, committed_at, committed_state, is_cut_off, IsPast, IsAllPast, IsBalanced, IsPlayable, IsTidy};
+ghost use Rattle.dn_world.specs.Logs.{log_of, IsLog, is_stopped, feeding, fed};
+ghost use Rattle.dn_world.specs.Runs.{IsLegal, IsLegalFrom, IsLegalOf, IsFedFrom, DontFall, run, world, injects, Continues, settled_rows, fresh_rows, committed, committed_at, committed_state, is_cut_off, IsPast, IsAllPast, IsBalanced, IsPlayable, IsTidy};
 ghost use Rattle.dn_lists.specs.InOrder.{put_in_order};
 ghost use Rattle.dn_model.specs.Order.{event_cmp};
 
@@ -53,12 +56,13 @@ pub fn boundary<S>()
 /// What is committed is final. For every case that goes on where the world is, the committed rows are a
 /// prefix of the case's lockstep rows, those of each router are a prefix of its lockstep list, the router's
 /// committed state is its lockstep state after as many rows, and a world that has too many rows for a trace
-/// is one of a case that has too many.
+/// is one of a case that has too many: it has committed just the rows that the trace shows.
 pub fn prefix<S>()
     ensures rows { (net : Network S) (feed : List External) (steps : List Step) → IsPlayable net.header → IsFeedOf net.header feed → IsLegal net steps → Continues feed (world net steps) → IsPrefixOf (committed net (world net steps)) (rows net feed) }
     ensures of_router { (net : Network S) (feed : List External) (steps : List Step) (r : ℕ) → IsPlayable net.header → IsFeedOf net.header feed → IsLegal net steps → Continues feed (world net steps) → r < routers net → IsPrefixOf (committed_at net (world net steps) r) (lockstep net feed r) }
     ensures state { (net : Network S) (feed : List External) (steps : List Step) (r : ℕ) → IsPlayable net.header → IsFeedOf net.header feed → IsLegal net steps → Continues feed (world net steps) → r < routers net → committed_state net (world net steps) r ≡ state net r (take (length (committed_at net (world net steps) r)) (lockstep net feed r)) }
     ensures cut { (net : Network S) (feed : List External) (steps : List Step) → IsPlayable net.header → IsFeedOf net.header feed → IsLegal net steps → Continues feed (world net steps) → is_cut_off net (world net steps) ≡ true → is_cut net feed ≡ true }
+    ensures cut_rows { (net : Network S) (feed : List External) (steps : List Step) → IsPlayable net.header → IsFeedOf net.header feed → IsLegal net steps → Continues feed (world net steps) → is_cut_off net (world net steps) ≡ true → committed net (world net steps) ≡ shown_rows net feed }
 {}
 
 /// No unsent message stands in a committed row. Each committed message is sent in the replay of its
@@ -139,4 +143,52 @@ pub fn replays<S>()
 pub fn fed_runs<S>()
     ensures legal { (net : Network S) (feed rest : List External) (steps : List Step) → IsFedFrom net (opening (routers net)) feed steps rest → IsLegal net steps }
     ensures continues { (net : Network S) (feed rest : List External) (steps : List Step) → DontFall feed → IsFedFrom net (opening (routers net)) feed steps rest → Continues feed (world net steps) }
+{}
+
+/// Two lists of steps put together: the second runs on from the world of the first, and the whole is legal
+/// exactly where both are. A front of a legal run is legal.
+pub fn runs_together<S>()
+    ensures world { (net : Network S) (xs ys : List Step) → world net (xs ++ ys) ≡ run net (world net xs) ys }
+    ensures legal { (net : Network S) (xs ys : List Step) → IsLegal net xs → IsLegalFrom net (world net xs) ys → IsLegal net (xs ++ ys) }
+    ensures rest { (net : Network S) (xs ys : List Step) → IsLegal net (xs ++ ys) → IsLegalFrom net (world net xs) ys }
+    ensures front { (net : Network S) (xs ys : List Step) → IsPrefixOf xs ys → IsLegal net ys → IsLegal net xs }
+{}
+
+/// What stays under every further list of steps: closed stays closed, a quiet world whose boundary is at the
+/// horizon stays the same world, the committed rows stay at the front, and what is cut stays cut.
+pub fn lasting<S>()
+    ensures closed { (net : Network S) (w : World) (steps : List Step) → w.closed ≡ true → (run net w steps).closed ≡ true }
+    ensures ended { (net : Network S) (w : World) (steps : List Step) → is_quiet w ≡ true → w.boundary ≡ horizon net.header w → IsLegalFrom net w steps → run net w steps ≡ w }
+    ensures rows { (net : Network S) (xs ys : List Step) → IsTimed net.header → IsLegal net (xs ++ ys) → IsPrefixOf (committed net (world net xs)) (committed net (world net (xs ++ ys))) }
+    ensures cut { (net : Network S) (xs ys : List Step) → IsTimed net.header → IsLegal net (xs ++ ys) → is_cut_off net (world net xs) ≡ true → is_cut_off net (world net (xs ++ ys)) ≡ true }
+{}
+
+/// How far the feed has come is told by the steps that feed the case alone: Beacon, Inject and Close, in
+/// order. All other steps leave floor, closed and the accepted externals as they are.
+pub fn fed_alone<S>()
+    ensures floor { (net : Network S) (w : World) (steps : List Step) → (run net w steps).floor ≡ (run net w (feeding steps)).floor }
+    ensures closed { (net : Network S) (w : World) (steps : List Step) → (run net w steps).closed ≡ (run net w (feeding steps)).closed }
+    ensures accepted { (net : Network S) (w : World) (steps : List Step) → (run net w steps).accepted ≡ (run net w (feeding steps)).accepted }
+    ensures injects { (steps : List Step) → injects (feeding steps) ≡ injects steps }
+{}
+
+/// Logs. One that ends with Stop is a front of no longer one, and the mark stands in no log that doesn't end
+/// with it. A step or a stop puts one entry behind a log that isn't stopped.
+pub fn logs()
+    ensures last { (xs ys : List Entry) → IsLog ys → IsPrefixOf xs ys → is_stopped xs ≡ true → xs ≡ ys }
+    ensures stays { (xs ys : List Entry) → IsLog ys → IsPrefixOf xs ys → is_stopped xs ≡ true → is_stopped ys ≡ true }
+    ensures within { (log : List Entry) (place : ℕ) → IsLog log → slice_get log place ≡ Some Stop → is_stopped log ≡ true }
+    ensures stopped { (steps : List Step) (stopped : Bool) → is_stopped (log_of steps stopped) ≡ stopped }
+    ensures did { (steps : List Step) (s : Step) → log_of (steps ++ s ∷ []) false ≡ log_of steps false ++ Did s ∷ [] }
+    ensures stop { (steps : List Step) → log_of steps true ≡ log_of steps false ++ Stop ∷ [] }
+{}
+
+/// Fed lists grow with logs: that of a front is a front, a log between two of one fed list has that one too,
+/// and a stop adds nothing. The fed list of a log has the steps of the log that feed a case.
+pub fn fed_logs()
+    ensures append { (xs ys : List Entry) → fed (xs ++ ys) ≡ fed xs ++ fed ys }
+    ensures front { (xs ys : List Entry) → IsPrefixOf xs ys → IsPrefixOf (fed xs) (fed ys) }
+    ensures between { (xs ys zs : List Entry) → IsPrefixOf xs ys → IsPrefixOf ys zs → fed zs ≡ fed xs → fed ys ≡ fed xs }
+    ensures stop { (xs : List Entry) → fed (xs ++ Stop ∷ []) ≡ fed xs }
+    ensures steps { (steps : List Step) (stopped : Bool) → fed (log_of steps stopped) ≡ map Did (feeding steps) }
 {}

@@ -16,7 +16,9 @@
 //! | `specs/World.antt` | one router's part, the world, cancelling, behind and ready, the horizon, quiet |
 //! | `specs/Steps.antt` | where each step is enabled, and what it does |
 //! | `specs/Runs.antt` | legal runs, the cases that they can be runs of, committed rows, and what holds |
-//! | `step.rt`, `packet.rt` | `Step` and `Packet`, as code and definitions both have them |
+//! | `specs/Logs.antt` | logs: the steps that were taken, behind which one mark Stop may stand; and the steps that feed a case |
+//! | `step.rt`, `packet.rt`, `entry.rt` | `Step`, `Packet` and `Entry`, as code and definitions both have them |
+//! | `kept.rt` | the trait of values that keep a log |
 //! | `laws.rt` | the laws, for all networks and all legal runs |
 //!
 //! The one contract upwards: the laws of legal runs, before all `laws::prefix` and `laws::unsent`. Whatever
@@ -24,13 +26,17 @@
 //! a prefix of the lockstep rows, and no message of a committed row is ever unsent.
 //!
 //! `proofs/Computes.antt` has runs with rollbacks and unsends that the definitions alone compute, step by
-//! step. The crate has no code but the two types, so no edit of its code turns a meaning, and it has no
+//! step. The crate has no code but its types, so no edit of its code turns a meaning, and it has no
 //! must-fail edits: what is wrong in a definition shows in the laws, which then aren't proved.
 #![tactic(auto)]
 
+mod entry;
+mod kept;
 pub mod laws;
 mod packet;
 mod step;
 
+pub use entry::Entry;
+pub use kept::Kept;
 pub use packet::Packet;
 pub use step::Step;

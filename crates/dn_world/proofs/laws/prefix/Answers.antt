@@ -1,6 +1,6 @@
 use Rattle.dn_world.specs.Runs.{world}
 use Rattle.dn_world.proofs.Sound.{world_sound}
-use Rattle.dn_world.proofs.Prefix.{committed_front, committed_at_front, committed_state_is, cut_off_is_cut}
+use Rattle.dn_world.proofs.Prefix.{committed_front, committed_at_front, committed_state_is, cut_off_is_cut, cut_committed}
 use Rattle.dn_world.proofs.laws.prefix.Goals as goal
 
 pub returns-clause-rows : goal.returns-clause-rows
@@ -14,3 +14,6 @@ returns-clause-state g c = λ net feed steps r p fed l goes inside. committed_st
 
 pub returns-clause-cut : goal.returns-clause-cut
 returns-clause-cut g c = λ net feed steps p fed l goes cut. cut_off_is_cut net feed p fed (world net steps) (world_sound net p steps l) goes cut
+
+pub returns-clause-cut_rows : goal.returns-clause-cut_rows
+returns-clause-cut_rows g c = λ net feed steps p fed l goes cut. cut_committed net feed p fed (world net steps) (world_sound net p steps l) goes cut

@@ -1,6 +1,6 @@
 use Rattle.std.proofs.Common.{◌+◌, ◌<◌, sym, ap, ◌∙◌, subst}
 use Rattle.dn_world.specs.declared.step.Step.TheVariants.{Beacon}
-use Rattle.dn_fabric.specs.Fabrics.{Fabric, HasStepped}
+use Rattle.dn_fabric.specs.Fabrics.{Fabric, HasStepped, HasNoted}
 use Rattle.dn_fabric.proofs.Calls.{OfEach, bound_past}
 use Rattle.dn_fabric.proofs.Taken.{fab, beacon_taken}
 use Rattle.dn_fabric.proofs.fabric.Fabric.beacon.Goals as goal
@@ -25,3 +25,12 @@ returns-clause-ok g c =
     (subst (λ f. f.live.world.floor + 1 < f.live.header.groups) (sym c.self.view_is) c.requires.left)
     (c.in_ok-note.ensures.world ∙ c.in_ok-beacon.ensures.ok) c.in_ok-note.ensures.journal in
     subst (λ (b : Fabric g.row.G.Denot). OfEach g.G.Guest.meaning b (λ net. HasStepped net b Beacon (fab c.note.new.world c.note.new.journal.items c.self.inside.leased.items))) c.self.view_is step.stepped
+
+pub returns-clause-noted : goal.returns-clause-noted
+returns-clause-noted g c =
+    let f = fab c.self.inside.world c.self.inside.journal.items c.self.inside.leased.items in
+    let step = beacon_taken g.G.Guest.meaning f c.self.invariant (ap (λ f. f.live.stopped) c.self.view_is ∙ c.requires.running) c.note.new.world c.note.new.journal.items
+    (ap (λ f. f.live.world.closed) c.self.view_is ∙ c.requires.unclosed)
+    (subst (λ f. f.live.world.floor + 1 < f.live.header.groups) (sym c.self.view_is) c.requires.left)
+    (c.in_ok-note.ensures.world ∙ c.in_ok-beacon.ensures.ok) c.in_ok-note.ensures.journal in
+    subst (λ (b : Fabric g.row.G.Denot). HasNoted b Beacon (fab c.note.new.world c.note.new.journal.items c.self.inside.leased.items)) c.self.view_is step.noted

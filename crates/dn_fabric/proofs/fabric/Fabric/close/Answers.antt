@@ -1,6 +1,6 @@
 use Rattle.std.proofs.Common.{◌+◌, sym, ap, ◌∙◌, subst}
 use Rattle.dn_world.specs.declared.step.Step.TheVariants.{Close}
-use Rattle.dn_fabric.specs.Fabrics.{Fabric, HasStepped}
+use Rattle.dn_fabric.specs.Fabrics.{Fabric, HasStepped, HasNoted}
 use Rattle.dn_fabric.proofs.Calls.{OfEach}
 use Rattle.dn_fabric.proofs.Taken.{fab, close_taken}
 use Rattle.dn_fabric.proofs.fabric.Fabric.close.Goals as goal
@@ -21,3 +21,12 @@ returns-clause-ok g c =
     (ap (λ f. f.live.world.floor + 1) c.self.view_is ∙ c.requires.last ∙ sym (ap (λ f. f.live.header.groups) c.self.view_is))
     (c.in_ok-note.ensures.world ∙ c.close.ensures) c.in_ok-note.ensures.journal in
     subst (λ (b : Fabric g.row.G.Denot). OfEach g.G.Guest.meaning b (λ net. HasStepped net b (Close) (fab c.note.new.world c.note.new.journal.items c.self.inside.leased.items))) c.self.view_is step.stepped
+
+pub returns-clause-noted : goal.returns-clause-noted
+returns-clause-noted g c =
+    let f = fab c.self.inside.world c.self.inside.journal.items c.self.inside.leased.items in
+    let step = close_taken g.G.Guest.meaning f c.self.invariant (ap (λ f. f.live.stopped) c.self.view_is ∙ c.requires.running) c.note.new.world c.note.new.journal.items
+    (ap (λ f. f.live.world.closed) c.self.view_is ∙ c.requires.unclosed)
+    (ap (λ f. f.live.world.floor + 1) c.self.view_is ∙ c.requires.last ∙ sym (ap (λ f. f.live.header.groups) c.self.view_is))
+    (c.in_ok-note.ensures.world ∙ c.close.ensures) c.in_ok-note.ensures.journal in
+    subst (λ (b : Fabric g.row.G.Denot). HasNoted b (Close) (fab c.note.new.world c.note.new.journal.items c.self.inside.leased.items)) c.self.view_is step.noted

@@ -1,6 +1,6 @@
 use Rattle.std.proofs.Common.{◌≡◌, length, refl, sym, ap, ◌∙◌, subst, arith}
 use Rattle.dn_world.specs.declared.step.Step.TheVariants.{Commit}
-use Rattle.dn_fabric.specs.Fabrics.{Fabric, HasStepped, HasStopped}
+use Rattle.dn_fabric.specs.Fabrics.{Fabric, HasStepped, HasNoted, HasStopped}
 use Rattle.dn_fabric.proofs.Calls.{OfEach, horizon_past, halted_holds, on_err_all}
 use Rattle.dn_fabric.proofs.Taken.{fab, committed_live, commit_taken, commit_keeps, half_taken}
 use Rattle.dn_fabric.proofs.fabric.Fabric.commit.Goals as goal
@@ -56,6 +56,14 @@ returns-then-is_cut-clause-ok g c =
     (commit_taken g.G.Guest.meaning f c.self.invariant (ap (λ b. b.live.stopped) c.self.view_is ∙ c.requires.running) c.note.new.world c.note.new.journal.items
     (λ net of. c.in_ok-note.ensures.world ∙ c.in_ok-commit.ensures.world net of) c.in_ok-note.ensures.journal).stepped
 
+pub returns-then-is_cut-clause-noted : goal.returns-then-is_cut-clause-noted
+returns-then-is_cut-clause-noted g c =
+    let f = fab c.self.inside.world c.self.inside.journal.items c.self.inside.leased.items in
+    let now = fab c.note.new.world c.note.new.journal.items c.self.inside.leased.items in
+    subst (λ (b : Fabric g.row.G.Denot). HasNoted b Commit now) c.self.view_is
+    (commit_taken g.G.Guest.meaning f c.self.invariant (ap (λ b. b.live.stopped) c.self.view_is ∙ c.requires.running) c.note.new.world c.note.new.journal.items
+    (λ net of. c.in_ok-note.ensures.world ∙ c.in_ok-commit.ensures.world net of) c.in_ok-note.ensures.journal).noted
+
 pub returns-clause-ok : goal.returns-clause-ok
 returns-clause-ok g c =
     let f = fab c.self.inside.world c.self.inside.journal.items c.self.inside.leased.items in
@@ -63,6 +71,14 @@ returns-clause-ok g c =
     subst (λ (b : Fabric g.row.G.Denot). OfEach g.G.Guest.meaning b (λ net. HasStepped net b Commit now)) c.self.view_is
     (commit_taken g.G.Guest.meaning f c.self.invariant (ap (λ b. b.live.stopped) c.self.view_is ∙ c.requires.running) c.note.new.world c.note.new.journal.items
     (λ net of. c.in_ok-note.ensures.world ∙ c.in_ok-commit.ensures.world net of) c.in_ok-note.ensures.journal).stepped
+
+pub returns-clause-noted : goal.returns-clause-noted
+returns-clause-noted g c =
+    let f = fab c.self.inside.world c.self.inside.journal.items c.self.inside.leased.items in
+    let now = fab c.note.new.world c.note.new.journal.items c.self.inside.leased.items in
+    subst (λ (b : Fabric g.row.G.Denot). HasNoted b Commit now) c.self.view_is
+    (commit_taken g.G.Guest.meaning f c.self.invariant (ap (λ b. b.live.stopped) c.self.view_is ∙ c.requires.running) c.note.new.world c.note.new.journal.items
+    (λ net of. c.in_ok-note.ensures.world ∙ c.in_ok-commit.ensures.world net of) c.in_ok-note.ensures.journal).noted
 
 pub returns-clause-answer : goal.returns-clause-answer
 returns-clause-answer g c =

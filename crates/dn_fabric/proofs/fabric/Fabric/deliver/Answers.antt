@@ -1,6 +1,6 @@
 use Rattle.std.proofs.Common.{◌<◌, length, sym, ap, ◌∙◌, subst}
 use Rattle.dn_world.specs.declared.step.Step.TheVariants.{Deliver}
-use Rattle.dn_fabric.specs.Fabrics.{Fabric, HasStepped}
+use Rattle.dn_fabric.specs.Fabrics.{Fabric, HasStepped, HasNoted}
 use Rattle.dn_fabric.proofs.Calls.{OfEach, waiting_past}
 use Rattle.dn_fabric.proofs.Taken.{fab, deliver_taken}
 use Rattle.dn_fabric.proofs.fabric.Fabric.deliver.Goals as goal
@@ -23,3 +23,11 @@ returns-clause-ok g c =
     (subst (λ f. c.args.place < length f.live.world.flight) (sym c.self.view_is) c.requires.there)
     (c.in_ok-note.ensures.world ∙ c.in_ok-deliver.ensures.ok) c.in_ok-note.ensures.journal in
     subst (λ (b : Fabric g.row.G.Denot). OfEach g.G.Guest.meaning b (λ net. HasStepped net b (Deliver c.args.place) (fab c.note.new.world c.note.new.journal.items c.self.inside.leased.items))) c.self.view_is step.stepped
+
+pub returns-clause-noted : goal.returns-clause-noted
+returns-clause-noted g c =
+    let f = fab c.self.inside.world c.self.inside.journal.items c.self.inside.leased.items in
+    let step = deliver_taken g.G.Guest.meaning f c.self.invariant (ap (λ f. f.live.stopped) c.self.view_is ∙ c.requires.running) c.args.place c.note.new.world c.note.new.journal.items
+    (subst (λ f. c.args.place < length f.live.world.flight) (sym c.self.view_is) c.requires.there)
+    (c.in_ok-note.ensures.world ∙ c.in_ok-deliver.ensures.ok) c.in_ok-note.ensures.journal in
+    subst (λ (b : Fabric g.row.G.Denot). HasNoted b (Deliver c.args.place) (fab c.note.new.world c.note.new.journal.items c.self.inside.leased.items)) c.self.view_is step.noted

@@ -7,7 +7,7 @@ use Rattle.dn_world.specs.Steps.{after}
 use Rattle.dn_fabric.specs.declared.answer.Finished.{Finished}
 use Rattle.dn_fabric.specs.declared.answer.Finished.TheVariants.{Applied, Stale}
 use Rattle.dn_fabric.specs.Fabrics.{Live, Fabric, HasStopped}
-use Rattle.dn_fabric.specs.Answers.{HasHandled, HasFinished}
+use Rattle.dn_fabric.specs.Answers.{HasHandled, HasEnded, HasFinished}
 use Rattle.dn_fabric.proofs.Calls.{OfEach, the_network, leased_inside, halted_holds, on_err_all}
 use Rattle.dn_fabric.proofs.Taken.{fab, finish_taken, stale_holds, half_taken}
 use Rattle.dn_fabric.proofs.fabric.Fabric.finish.Goals as goal
@@ -70,6 +70,20 @@ returns-in_ok-note-in-Applied-clause-ok g c =
     subst (λ (b : Fabric g.row.G.Denot). OfEach g.G.Guest.meaning b (λ net. HasFinished net b c.args.outcome Applied now)) c.self.view_is
     (λ net of. ((handled net of).0, done.stepped net of))
 
+pub returns-in_ok-note-in-Applied-clause-noted : goal.returns-in_ok-note-in-Applied-clause-noted
+returns-in_ok-note-in-Applied-clause-noted g c =
+    let f = fab c.self.inside.world c.self.inside.journal.items c.self.inside.leased.items in
+    let running = ap (λ b. b.live.stopped) c.self.view_is ∙ c.requires.running in
+    let handled = handled_is g.G.Guest.meaning f c.args.outcome c.in_ok-apply.field-0 Applied c.apply.new.self c.in-Applied.is c.in_ok-apply.ensures.ok in
+    let now = fab c.note.new.world c.note.new.journal.items (slice_set c.self.inside.leased.items c.from.result false) in
+    let done = finish_taken g.G.Guest.meaning f c.self.invariant running c.args.outcome.router c.note.new.world c.note.new.journal.items (slice_set c.self.inside.leased.items c.from.result false)
+    (leased_inside g.G.Guest.meaning f c.self.invariant c.args.outcome.router (subst (λ (b : Fabric g.row.G.Denot). get_or b.leased c.args.outcome.router false ≡ true) (sym c.self.view_is) c.requires.leased))
+    (let found = the_network g.G.Guest.meaning f c.self.invariant in (handled found.0 found.1).0.0)
+    (ap (λ r. set c.self.inside.leased.items r false) (c.from.ensures ∙ c.router-router.ensures))
+    (λ net of. c.in_ok-note-in-Applied.ensures.world ∙ (handled net of).1)
+    (c.in_ok-note-in-Applied.ensures.journal ∙ ap (λ r. c.self.inside.journal.items ++ Handle r ∷ []) c.router-router.ensures) in
+    subst (λ (b : Fabric g.row.G.Denot). HasEnded b c.args.outcome Applied now) c.self.view_is done.noted
+
 pub invariant_of-self-in-Stale : goal.invariant_of-self-in-Stale
 invariant_of-self-in-Stale g c =
     let f = fab c.self.inside.world c.self.inside.journal.items c.self.inside.leased.items in
@@ -88,3 +102,13 @@ returns-in-Stale-clause-ok g c =
     let place : c.from-in-Stale.result ≡ c.args.outcome.router = c.from-in-Stale.ensures ∙ c.router-router.ensures in
     subst (λ (b : Fabric g.row.G.Denot). OfEach g.G.Guest.meaning b (λ net. HasFinished net b c.args.outcome Stale now)) c.self.view_is
     (λ net of. ((stale net of).0, λ i. fab ((stale net of).1 i) c.self.inside.journal.items (set c.self.inside.leased.items (place i) false)))
+
+pub returns-in-Stale-clause-noted : goal.returns-in-Stale-clause-noted
+returns-in-Stale-clause-noted g c =
+    let f = fab c.self.inside.world c.self.inside.journal.items c.self.inside.leased.items in
+    let stale = handled_is g.G.Guest.meaning f c.args.outcome c.in_ok-apply.field-0 Stale c.apply.new.self c.in-Stale.is c.in_ok-apply.ensures.ok in
+    let found = the_network g.G.Guest.meaning f c.self.invariant in
+    let now = fab c.apply.new.self c.self.inside.journal.items (slice_set c.self.inside.leased.items c.from-in-Stale.result false) in
+    let place : c.from-in-Stale.result ≡ c.args.outcome.router = c.from-in-Stale.ensures ∙ c.router-router.ensures in
+    subst (λ (b : Fabric g.row.G.Denot). HasEnded b c.args.outcome Stale now) c.self.view_is
+    (λ i. fab ((stale found.0 found.1).1 i) c.self.inside.journal.items (set c.self.inside.leased.items (place i) false))

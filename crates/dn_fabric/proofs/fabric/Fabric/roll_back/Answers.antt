@@ -4,7 +4,7 @@ use Rattle.dn_world.specs.declared.step.Step.TheVariants.{RollBack}
 use Rattle.dn_world.specs.World.{part, is_behind}
 use Rattle.dn_world.specs.Steps.{after, taken_off}
 use Rattle.dn_world.specs.Runs.{IsPast}
-use Rattle.dn_fabric.specs.Fabrics.{Fabric, HasStepped, HasStopped}
+use Rattle.dn_fabric.specs.Fabrics.{Fabric, HasStepped, HasNoted, HasStopped}
 use Rattle.dn_fabric.proofs.Calls.{OfEach, halted_holds, on_err_all}
 use Rattle.dn_fabric.proofs.Taken.{fab, roll_back_taken, late_taken, half_taken}
 use Rattle.dn_fabric.proofs.fabric.Fabric.roll_back.Goals as goal
@@ -60,6 +60,16 @@ returns-clause-ok g c =
     (subst (λ (b : Fabric g.row.G.Denot). c.args.router < length b.live.header.routers) (sym c.self.view_is) c.requires.inside)
     (ap (λ b. is_behind (part b.live.world c.args.router)) c.self.view_is ∙ c.requires.behind)
     (λ net of. c.in_ok-note.ensures.world ∙ c.in_ok-roll_back.ensures.ok net of) c.in_ok-note.ensures.journal).stepped
+
+pub returns-clause-noted : goal.returns-clause-noted
+returns-clause-noted g c =
+    let f = fab c.self.inside.world c.self.inside.journal.items c.self.inside.leased.items in
+    let now = fab c.note.new.world c.note.new.journal.items c.self.inside.leased.items in
+    subst (λ (b : Fabric g.row.G.Denot). HasNoted b (RollBack c.args.router) now) c.self.view_is
+    (roll_back_taken g.G.Guest.meaning f c.self.invariant (ap (λ b. b.live.stopped) c.self.view_is ∙ c.requires.running) c.args.router c.note.new.world c.note.new.journal.items
+    (subst (λ (b : Fabric g.row.G.Denot). c.args.router < length b.live.header.routers) (sym c.self.view_is) c.requires.inside)
+    (ap (λ b. is_behind (part b.live.world c.args.router)) c.self.view_is ∙ c.requires.behind)
+    (λ net of. c.in_ok-note.ensures.world ∙ c.in_ok-roll_back.ensures.ok net of) c.in_ok-note.ensures.journal).noted
 
 pub returns-clause-late : goal.returns-clause-late
 returns-clause-late g c =

@@ -5,4 +5,4 @@ use Rattle.dn_fabric.proofs.flight.Flight.send.Given as goal
 
 abbrev pub invariant-loop-event : goal.invariant-loop-event
 invariant-loop-event l =
-    l.self-inside.packets.items ++ signed l.plus (into_iter_items l.event-iterator) ≡ l.initial.self-inside.packets.items ++ signed l.fn.plus l.fn.events.items
+    l.self-inside.packets.items ++ signed l.plus (into_iter_items l.event-iterator) ≡ l.initial.self-inside.packets.items ++ signed l.plus l.fn.events.items
