@@ -2,10 +2,9 @@
 
 use crate::fields::Fields;
 use crate::ospf_state::push_state;
+use crate::out::Out;
 use crate::settings::guest_of;
-use crate::stop::Stop;
 use dn_guest::{Bytes, Guest, Input, NoMemory, Outbox};
-use dn_text::{Piece, append_all, unhex};
 use guest_any::AnyGuest;
 use std::alloc::Global;
 
@@ -33,30 +32,46 @@ impl Bench {
     }
 
     /// Takes a line, and appends what happened.
-    pub fn take_line(&mut self, alloc: Global, line: &[u8], out: &mut Bytes) -> Result<(), Stop> {
-        let mut fields = Fields::new(line);
-        let word = fields.field()?;
-        if word == b"router".as_slice() {
-            let name = fields.field()?;
-            self.add(alloc, name, guest_of(alloc, &mut fields)?, u16::MAX)
-        } else if word == b"at".as_slice() {
-            self.at = self.place(fields.field()?)?;
-            fields.end()
-        } else if word == b"fork".as_slice() {
-            let name = fields.field()?;
-            fields.end()?;
-            self.fork(alloc, name)
-        } else if word == b"same".as_slice() {
-            let other = self.place(fields.field()?)?;
-            fields.end()?;
-            self.compare(other, out)
-        } else {
-            self.current_mut()?.take_line(alloc, word, &mut fields, out)
+    pub fn take_line(
+        &mut self,
+        alloc: Global,
+        fields: &mut Fields<'_>,
+        out: &mut Out,
+    ) -> Result<(), NoMemory> {
+        if fields.takes(b"router") {
+            return self.add_router(alloc, fields);
+        }
+        if fields.takes(b"fork") {
+            return self.add_fork(alloc, fields);
+        }
+        if fields.takes(b"at") {
+            self.at = self.place(fields);
+            return Ok(());
+        }
+        if fields.takes(b"same") {
+            self.compare(fields, out);
+            return Ok(());
+        }
+        match self.routers.get_mut(self.at) {
+            Some(router) => router.take_line(alloc, fields, out),
+            None => Ok(()),
         }
     }
 
     /// A router more, of which the next lines speak.
-    fn add(&mut self, alloc: Global, name: &[u8], guest: AnyGuest, ports: u16) -> Result<(), Stop> {
+    fn add_router(&mut self, alloc: Global, fields: &mut Fields<'_>) -> Result<(), NoMemory> {
+        let name = fields.field();
+        let guest = guest_of(alloc, fields)?;
+        self.add(alloc, name, guest, u16::MAX)
+    }
+
+    fn add(
+        &mut self,
+        alloc: Global,
+        name: &[u8],
+        guest: AnyGuest,
+        ports: u16,
+    ) -> Result<(), NoMemory> {
         self.at = self.routers.len();
         let name = Bytes::from_slice(alloc, name)?;
         self.routers.push(Router { name, guest, ports })?;
@@ -64,181 +79,156 @@ impl Bench {
     }
 
     /// A fork of the router, of which the next lines speak.
-    fn fork(&mut self, alloc: Global, name: &[u8]) -> Result<(), Stop> {
-        let router = self.router(self.at)?;
-        let guest = router.guest.fork(alloc)?;
+    fn add_fork(&mut self, alloc: Global, fields: &mut Fields<'_>) -> Result<(), NoMemory> {
+        let name = fields.field();
+        let Some(router) = self.routers.get(self.at) else {
+            fields.refuse();
+            return Ok(());
+        };
         let ports = router.ports;
+        let guest = router.guest.fork(alloc)?;
         self.add(alloc, name, guest, ports)
     }
 
     /// Whether the router has the same state as another.
-    fn compare(&self, other: usize, out: &mut Bytes) -> Result<(), Stop> {
-        let one = &self.router(self.at)?.guest;
-        let two = &self.router(other)?.guest;
-        let word: &[u8] = match (one.same(two), two.same(one)) {
-            (true, true) => b"= same\n",
-            (false, false) => b"= different\n",
-            _ => b"= same one way\n",
+    fn compare(&self, fields: &mut Fields<'_>, out: &mut Out) {
+        let other = self.place(fields);
+        let (Some(one), Some(two)) = (self.routers.get(self.at), self.routers.get(other)) else {
+            return;
         };
-        out.append(word)?;
-        Ok(())
+        let word = match (one.guest.same(&two.guest), two.guest.same(&one.guest)) {
+            (true, true) => "= same\n",
+            (false, false) => "= different\n",
+            _ => "= same one way\n",
+        };
+        out.text(word);
     }
 
-    /// The place of the last router of this name.
-    fn place(&self, name: &[u8]) -> Result<usize, Stop> {
-        let mut found = None;
+    /// The place of the last router of the name in the next field.
+    fn place(&self, fields: &mut Fields<'_>) -> usize {
+        let name = fields.field();
+        let mut found = self.routers.len();
         for (place, router) in self.routers.iter().enumerate() {
             if router.name.as_slice() == name {
-                found = Some(place);
+                found = place;
             }
         }
-        match found {
-            Some(place) => Ok(place),
-            None => Err(Stop::Unreadable),
+        if found == self.routers.len() {
+            fields.refuse();
         }
-    }
-
-    fn router(&self, place: usize) -> Result<&Router, Stop> {
-        match self.routers.get(place) {
-            Some(router) => Ok(router),
-            None => Err(Stop::Unreadable),
-        }
-    }
-
-    fn current_mut(&mut self) -> Result<&mut Router, Stop> {
-        match self.routers.get_mut(self.at) {
-            Some(router) => Ok(router),
-            None => Err(Stop::Unreadable),
-        }
+        found
     }
 }
 
 impl Router {
-    /// Takes a line that begins with this word.
+    /// Takes a line that speaks of this router.
     fn take_line(
         &mut self,
         alloc: Global,
-        word: &[u8],
         fields: &mut Fields<'_>,
-        out: &mut Bytes,
-    ) -> Result<(), Stop> {
-        if word == b"ports".as_slice() {
-            self.ports = mask(alloc, fields.field()?)?;
-        } else if word == b"show".as_slice() {
-            self.show(alloc, out)?;
-        } else if word == b"image".as_slice() {
-            self.image(alloc, out)?;
-        } else if word == b"sort".as_slice() {
-            let sort = u64::from(self.guest.sort());
-            append_all(
-                out,
-                &[
-                    Piece::Text(b"= sort "),
-                    Piece::Decimal(sort),
-                    Piece::Text(b"\n"),
-                ],
-            )?;
-        } else {
-            let input = input_of(alloc, word, fields)?;
+        out: &mut Out,
+    ) -> Result<(), NoMemory> {
+        if fields.takes(b"ports") {
+            return self.set_ports(alloc, fields);
+        }
+        if fields.takes(b"show") {
+            return self.show(alloc, out);
+        }
+        if fields.takes(b"image") {
+            return self.image(alloc, out);
+        }
+        if fields.takes(b"sort") {
+            out.number("= sort ", u64::from(self.guest.sort()));
+            out.text("\n");
+            return Ok(());
+        }
+        let input = input_of(alloc, fields)?;
+        if fields.is_read() {
             self.turn(alloc, &input, out)?;
         }
-        fields.end()
+        Ok(())
+    }
+
+    /// Sets the mask of up ports, four hexadecimal digits.
+    fn set_ports(&mut self, alloc: Global, fields: &mut Fields<'_>) -> Result<(), NoMemory> {
+        let bytes = fields.body(alloc)?;
+        match *bytes.as_slice() {
+            [high, low] => self.ports = u16::from_be_bytes([high, low]),
+            _ => fields.refuse(),
+        }
+        Ok(())
     }
 
     /// A turn: appends what the guest puts out, the state of an OSPF router, and whether nothing changed.
-    fn turn(&mut self, alloc: Global, input: &Input, out: &mut Bytes) -> Result<(), NoMemory> {
+    fn turn(&mut self, alloc: Global, input: &Input, out: &mut Out) -> Result<(), NoMemory> {
         let before = self.guest.fork(alloc)?;
+        self.step(alloc, input, out)?;
+        out.flag(self.guest.same(&before), "= unchanged\n");
+        Ok(())
+    }
+
+    /// Takes the input, and appends what the guest puts out and the state of an OSPF router.
+    fn step(&mut self, alloc: Global, input: &Input, out: &mut Out) -> Result<(), NoMemory> {
         let mut outbox = Outbox::new(alloc);
         self.guest.step(alloc, self.ports, input, &mut outbox)?;
-        push_outputs(&outbox, out)?;
+        for output in outbox.outputs() {
+            out.number("> ", u64::from(output.port));
+            out.hex(" ", output.body.as_slice());
+            out.text("\n");
+        }
+        self.state(alloc, out)
+    }
+
+    /// Appends the state of an OSPF router.
+    fn state(&self, alloc: Global, out: &mut Out) -> Result<(), NoMemory> {
         if let AnyGuest::Ospf(guest) = &self.guest {
             let mut image = Bytes::new(alloc);
             guest.image(alloc, &mut image)?;
-            push_state(image.as_slice(), out)?;
-        }
-        if self.guest.same(&before) {
-            out.append(b"= unchanged\n")?;
+            push_state(image.as_slice(), out);
         }
         Ok(())
     }
 
     /// Appends the image in hexadecimal.
-    fn image(&self, alloc: Global, out: &mut Bytes) -> Result<(), NoMemory> {
+    fn image(&self, alloc: Global, out: &mut Out) -> Result<(), NoMemory> {
         let mut image = Bytes::new(alloc);
         self.guest.image(alloc, &mut image)?;
-        append_all(
-            out,
-            &[
-                Piece::Text(b"= "),
-                Piece::Hex(image.as_slice()),
-                Piece::Text(b"\n"),
-            ],
-        )
+        out.hex("= ", image.as_slice());
+        out.text("\n");
+        Ok(())
     }
 
     /// Appends the lines of the show, each behind a bar.
-    fn show(&self, alloc: Global, out: &mut Bytes) -> Result<(), NoMemory> {
+    fn show(&self, alloc: Global, out: &mut Out) -> Result<(), NoMemory> {
         let mut show = Bytes::new(alloc);
         self.guest.show(alloc, &mut show)?;
         let mut is_start = true;
         for byte in show.as_slice() {
-            if is_start {
-                out.append(b"| ")?;
-            }
-            out.push(*byte)?;
+            out.flag(is_start, "| ");
+            out.byte(*byte);
             is_start = *byte == b'\n';
         }
         Ok(())
     }
 }
 
-/// Appends a line for each output: `> PORT BODY`.
-fn push_outputs(outbox: &Outbox, out: &mut Bytes) -> Result<(), NoMemory> {
-    for output in outbox.outputs() {
-        let port = u64::from(output.port);
-        let body = output.body.as_slice();
-        append_all(
-            out,
-            &[
-                Piece::Text(b"> "),
-                Piece::Decimal(port),
-                Piece::Text(b" "),
-                Piece::Hex(body),
-                Piece::Text(b"\n"),
-            ],
-        )?;
-    }
-    Ok(())
-}
-
-/// A mask of up ports, four hexadecimal digits.
-fn mask(alloc: Global, field: &[u8]) -> Result<u16, Stop> {
-    match unhex(alloc, field)? {
-        Some(bytes) if bytes.len() == 2 => {
-            let bytes = bytes.as_slice();
-            Ok(u16::from_be_bytes([bytes[0], bytes[1]]))
-        }
-        _ => Err(Stop::Unreadable),
-    }
-}
-
 /// The input of a turn.
-fn input_of(alloc: Global, word: &[u8], fields: &mut Fields<'_>) -> Result<Input, Stop> {
-    if word == b"tick".as_slice() {
-        match u32::try_from(fields.number(u64::from(u32::MAX))?) {
-            Ok(group) => Ok(Input::Tick(group)),
-            Err(_) => Err(Stop::Unreadable),
-        }
-    } else if word == b"cmd".as_slice() {
-        Ok(Input::Cmd(fields.body(alloc)?))
-    } else if word == b"down".as_slice() {
-        Ok(Input::Down(fields.byte()?))
-    } else if word == b"up".as_slice() {
-        Ok(Input::Up(fields.byte()?))
-    } else if word == b"msg".as_slice() {
-        let port = fields.byte()?;
-        Ok(Input::Msg(port, fields.body(alloc)?))
-    } else {
-        Err(Stop::Unreadable)
+fn input_of(alloc: Global, fields: &mut Fields<'_>) -> Result<Input, NoMemory> {
+    if fields.takes(b"tick") {
+        return Ok(Input::Tick(fields.number(b' ', 0xffff_ffff) as u32));
     }
+    if fields.takes(b"cmd") {
+        return Ok(Input::Cmd(fields.body(alloc)?));
+    }
+    if fields.takes(b"down") {
+        return Ok(Input::Down(fields.byte(b' ')));
+    }
+    if fields.takes(b"up") {
+        return Ok(Input::Up(fields.byte(b' ')));
+    }
+    if !fields.takes(b"msg") {
+        fields.refuse();
+    }
+    let port = fields.byte(b' ');
+    Ok(Input::Msg(port, fields.body(alloc)?))
 }

@@ -7,42 +7,30 @@
 //! | `bench.rt` | the routers of a table, and what each line does with them |
 //! | `settings.rt` | the guest that a `router` line tells |
 //! | `ospf_state.rt` | the line of an OSPF router's state, from its image |
-//! | `fields.rt`, `stop.rt` | the fields of a line, and why a line isn't played |
+//! | `fields.rt` | the fields of a line |
+//! | `out.rt` | the text that is written |
 //!
 //! It shows what OSPF, RIP and flooding guests do with single inputs. `tests/guest_turns/README.md` has the
 //! lines of a table, and says how to add one. Exit status: 0, or 1 for a line that can't be read, 2 for a fault
-//! of the input or the output, 3 if it is out of memory; then standard error says so.
+//! of the input or the output, 3 if it is out of memory; then standard error says so, and names the line.
 #![tactic(auto)]
 
 mod bench;
 mod fields;
 mod ospf_state;
+mod out;
 mod settings;
-mod stop;
 
 use bench::Bench;
-use dn_guest::Bytes;
 use dn_io::{ReadError, Sink, Source, StdSink, StdSource, put_all, read_all};
 use dn_text::first_line;
+use fields::Fields;
+use out::Out;
 use std::alloc::Global;
 use std::process::ExitCode;
-use stop::Stop;
 
 /// How many bytes a table may have.
 const MOST_BYTES: u64 = 16_777_216;
-
-/// How a table ended.
-#[derive(Debug, Drop)]
-enum Ending {
-    Played,
-    /// This line, counted from 1, can't be read.
-    Unreadable(u64),
-    /// The input failed, or has more bytes than a table may have.
-    Unread,
-    /// The output failed.
-    Unwritten,
-    NoMemory,
-}
 
 /// The line without its newline.
 fn text_of(line: &[u8]) -> &[u8] {
@@ -62,60 +50,51 @@ fn is_comment(text: &[u8]) -> bool {
     matches!(text.first().copied(), None | Some(b'#'))
 }
 
-/// Plays one line: appends it and what happened.
-fn play_line(alloc: Global, bench: &mut Bench, line: &[u8], out: &mut Bytes) -> Result<(), Stop> {
-    let text = text_of(line);
-    if is_outcome(text) {
-        return Ok(());
-    }
-    out.append(text)?;
-    out.append(b"\n")?;
+/// Copies a line, plays it, and appends what happened; the exit status, 0 to go on.
+fn play_line(alloc: Global, bench: &mut Bench, text: &[u8], out: &mut Out) -> u8 {
+    out.append(text);
+    out.text("\n");
     if is_comment(text) {
-        return Ok(());
+        return 0;
     }
-    bench.take_line(alloc, text, out)
+    let mut fields = Fields::new(text);
+    if bench.take_line(alloc, &mut fields, out).is_err() || out.is_short() {
+        return 3;
+    }
+    if fields.is_read() { 0 } else { 1 }
 }
 
-/// Plays the table.
-fn play(alloc: Global, table: &[u8], out: &mut Bytes) -> Ending {
+/// Plays the table; the exit status, and the last line that was played, counted from 1.
+fn play(alloc: Global, table: &[u8], out: &mut Out) -> (u8, u64) {
     let mut bench = Bench::new(alloc);
-    let mut number = 1u64;
+    let mut number = 0u64;
     let mut rest = table;
     'lines: while !rest.is_empty() {
         let (line, behind) = first_line(rest);
-        match play_line(alloc, &mut bench, line, out) {
-            Ok(()) => {}
-            Err(Stop::Unreadable) => return Ending::Unreadable(number),
-            Err(Stop::NoMemory) => return Ending::NoMemory,
-        }
-        rest = behind;
         number = number.saturating_add(1);
+        rest = behind;
+        let text = text_of(line);
+        if !is_outcome(text) {
+            let status = play_line(alloc, &mut bench, text, out);
+            if status != 0 {
+                return (status, number);
+            }
+        }
     }
-    Ending::Played
+    (0, number)
 }
 
-/// The exit status, and what standard error says.
-fn ending_words(ending: &Ending) -> (u8, &'static str) {
-    match ending {
-        Ending::Played => (0, ""),
-        Ending::Unreadable(_) => (1, "can't be read"),
-        Ending::Unread => (2, "the input can't be read"),
-        Ending::Unwritten => (2, "the output can't be written"),
-        Ending::NoMemory => (3, "out of memory"),
-    }
-}
-
-/// Reads the table, plays it, and writes it with what happened.
-fn run<S: Source, K: Sink>(alloc: Global, source: &mut S, sink: &mut K) -> Ending {
+/// Reads the table, plays it, and writes it with what happened; the exit status, and the last line.
+fn run<S: Source, K: Sink>(alloc: Global, source: &mut S, sink: &mut K) -> (u8, u64) {
     let table = match read_all(alloc, source, MOST_BYTES) {
         Ok(table) => table,
-        Err(ReadError::NoMemory) => return Ending::NoMemory,
-        Err(_) => return Ending::Unread,
+        Err(ReadError::NoMemory) => return (3, 0),
+        Err(_) => return (2, 0),
     };
-    let mut out = Bytes::new(alloc);
+    let mut out = Out::new(alloc);
     let ending = play(alloc, table.as_slice(), &mut out);
     if put_all(sink, out.as_slice()).is_err() {
-        return Ending::Unwritten;
+        return (2, 0);
     }
     ending
 }
@@ -123,12 +102,13 @@ fn run<S: Source, K: Sink>(alloc: Global, source: &mut S, sink: &mut K) -> Endin
 fn main(rt: HostRuntime) -> ExitCode {
     let mut source = StdSource::new(rt.stdin());
     let mut sink = StdSink::new(rt.stdout());
-    let ending = run(rt.alloc(), &mut source, &mut sink);
-    let (status, words) = ending_words(&ending);
-    let _ = match ending {
-        Ending::Played => Ok(()),
-        Ending::Unreadable(line) => eprintln!(rt; "guest_turns: line {line} {words}"),
-        _ => eprintln!(rt; "guest_turns: {words}"),
+    let (status, line) = run(rt.alloc(), &mut source, &mut sink);
+    let words = match status {
+        0 => return ExitCode::SUCCESS,
+        1 => "it can't be read",
+        2 => "the input or the output failed",
+        _ => "out of memory",
     };
+    let _ = eprintln!(rt; "guest_turns: line {line}: {words}");
     ExitCode::from(status)
 }

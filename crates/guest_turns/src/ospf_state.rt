@@ -1,7 +1,6 @@
 //! What an OSPF router's image tells of neighbours, LSAs and retransmission lists (docs/OSPF.md, "Image").
 
-use dn_guest::{Bytes, NoMemory};
-use dn_text::push_decimal;
+use crate::out::Out;
 
 /// How many bytes of an image stand before the number of own networks, how many each of these has, and
 /// each entry of a list.
@@ -38,39 +37,33 @@ impl<'a> Image<'a> {
     }
 
     /// Goes over a port, appends the word of its neighbour's state, and answers how long its list is.
-    fn port(&mut self, out: &mut Bytes) -> Result<u16, NoMemory> {
+    fn port(&mut self, out: &mut Out) -> u16 {
         self.skip(2);
-        out.append(state_word(self.byte()))?;
+        out.text(match self.byte() {
+            0 => " Down",
+            1 => " Init",
+            _ => " Full",
+        });
         self.skip(8);
         let listed = self.short();
         self.skip(usize::from(listed) * ENTRY);
-        Ok(listed)
-    }
-}
-
-fn state_word(code: u8) -> &'static [u8] {
-    match code {
-        0 => b" Down",
-        1 => b" Init",
-        _ => b" Full",
+        listed
     }
 }
 
 /// Appends the line of a router's state: `= STATE.., lsas N, listed M`, where the states are those of the
 /// neighbours port by port, and M counts the entries of all retransmission lists.
-pub fn push_state(image: &[u8], out: &mut Bytes) -> Result<(), NoMemory> {
+pub fn push_state(image: &[u8], out: &mut Out) {
     let mut image = Image { rest: image };
     image.skip(FRONT);
     let networks = image.short();
     image.skip(usize::from(networks) * NETWORK);
-    out.append(b"=")?;
+    out.text("=");
     let mut listed = 0u64;
     for _ in 0..image.byte() {
-        listed = listed.wrapping_add(u64::from(image.port(out)?));
+        listed = listed.wrapping_add(u64::from(image.port(out)));
     }
-    out.append(b", lsas ")?;
-    push_decimal(out, u64::from(image.short()))?;
-    out.append(b", listed ")?;
-    push_decimal(out, listed)?;
-    out.append(b"\n")
+    out.number(", lsas ", u64::from(image.short()));
+    out.number(", listed ", listed);
+    out.text("\n");
 }

@@ -1,12 +1,14 @@
 //! The receive table of OSPF (RFC 2328 section 13): `copy` installs an LSA, `receive` receives one.
 
-ghost use Rattle.std.specs.Prelude.{◌≡◌, length};
+ghost use Rattle.std.specs.Prelude.{◌≡◌, ◌+◌, ◌<◌, IfOk, length};
 
-use crate::fields::{has, number, number8, ports, tick};
-use crate::lsas::{lsa_of, push_database, push_list};
-use anyhow::{Result, bail};
-use ospf_flood::{Lists, Step};
+use crate::fields::Line;
+use crate::lsas::{lsa_of, push_kept, push_key};
+use crate::out::Out;
+use dn_guest::NoMemory;
+use ospf_flood::{Lists, Step, Verdict};
 use ospf_lsdb::{LsaKey, Lsdb, key_of};
+use ospf_wire::Lsa;
 use std::alloc::Global;
 
 /// The LSA that stands on retransmission lists: the router-LSA of router 5.
@@ -17,61 +19,125 @@ const LISTED: LsaKey = LsaKey {
 };
 
 /// `copy`: installs the LSA at the tick `installed`, by flooding or not; it was sent at the tick `sent`.
-pub fn copy(alloc: Global, database: &mut Lsdb, line: &str) -> Result<String> {
+pub fn copy(alloc: Global, database: &mut Lsdb, line: &mut Line<'_>) -> Result<(), NoMemory> {
     let lsa = lsa_of(alloc, line)?;
     let key = key_of(&lsa.head);
-    let installed = number(line, "installed", 50)?;
-    database.install(lsa, installed, has(line, "flooded"), has(line, "foreign"))?;
-    if let Some(sent) = tick(line, "sent")? {
+    let installed = line.number("installed", 50);
+    let flooded = line.has("flooded");
+    database.install(lsa, installed, flooded, line.has("foreign"))?;
+    if let Some(sent) = line.some("sent", 10, u32::MAX) {
         database.note_sent(&key, sent);
     }
-    Ok(String::new(alloc))
+    Ok(())
 }
 
-/// `receive`: receives the LSA. There are `lists` lists; the LSA 1/5/5 stands on those of the ports
-/// `listed`, since the tick `at`. It tells the step, and what the database and the lists are then.
-pub fn receive(alloc: Global, database: &mut Lsdb, line: &str) -> Result<String> {
-    let count = number8(line, "lists", 4)?;
-    let port = number8(line, "port", 1)?;
+/// So many lists; the LSA 1/5/5 stands on those of the ports `listed`, since the tick `at`.
+fn lists_of(alloc: Global, count: u8, line: &mut Line<'_>) -> Result<Lists, NoMemory>
+    ensures { IfOk result (λ lists. length lists ≡ count) }
+{
+    let listed = line.ports("listed");
+    let at = line.number("at", 90);
     let mut lists = Lists::new(alloc, count)?;
-    lists.put_on(ports(line, "listed")?, LISTED, number(line, "at", 90)?)?;
-    if port >= count {
-        bail!("no such port");
-    }
-    let full = match ports(line, "full")? {
-        0 => 0b0111,
-        full => full,
-    };
-    let own = number(line, "own", 9)?;
-    let now = number(line, "now", 100)?;
-    let came = lsa_of(alloc, line)?;
-    let step = ospf_flood::receive(database, &mut lists, full, port, &came, own, now)?;
-    let mut text = step_text(alloc, step)?;
-    push_database(alloc, &mut text, database)?;
-    push_lists(alloc, &mut text, &lists, count)?;
-    Ok(text)
+    lists.put_on(listed, LISTED, at)?;
+    Ok(lists)
 }
 
-fn step_text(alloc: Global, step: Step) -> Result<String> {
-    let verdict = step.verdict;
-    let mut text = format!(in alloc; "-> {verdict:?}")?;
-    if step.flush {
-        text.push_str(" flush")?;
+/// How an LSA comes: the ports that have a full neighbour, the port on which it comes, the router's own id,
+/// and the tick.
+#[derive(Clone, Copy)]
+struct Arrival {
+    full: u16,
+    port: u8,
+    own: u32,
+    now: u32,
+}
+
+fn arrival_of(line: &mut Line<'_>) -> Arrival {
+    let full = line.ports("full");
+    Arrival {
+        full: if full == 0 { 0b0111 } else { full },
+        port: line.byte("port", 1),
+        own: line.number("own", 9),
+        now: line.number("now", 100),
     }
-    if step.renew {
-        text.push_str(" renew")?;
+}
+
+/// `receive`: receives the LSA on a port of a router that has `lists` ports. It tells the step, and what
+/// the database and the lists are then.
+pub fn receive(
+    alloc: Global,
+    database: &mut Lsdb,
+    line: &mut Line<'_>,
+    out: &mut Out,
+) -> Result<(), NoMemory> {
+    let arrival = arrival_of(line);
+    let count = line.byte("lists", 4);
+    if arrival.port >= count {
+        line.refuse();
+        return Ok(());
     }
-    text.push('\n')?;
-    Ok(text)
+    let came = lsa_of(alloc, line)?;
+    let mut lists = lists_of(alloc, count, line)?;
+    receive_lsa(database, &mut lists, arrival, &came, out)?;
+    push_lists(&lists, count, out)
+}
+
+/// Receives the LSA, and tells the step and the database.
+fn receive_lsa(
+    database: &mut Lsdb,
+    lists: &mut Lists,
+    arrival: Arrival,
+    came: &Lsa,
+    out: &mut Out,
+) -> Result<(), NoMemory>
+    requires port { arrival.port < length lists.old }
+    requires size { came.now.head.length ≡ 20 + length came.now.body }
+    ensures { length lists.new ≡ length lists.old }
+{
+    let Arrival {
+        full,
+        port,
+        own,
+        now,
+    } = arrival;
+    let step = ospf_flood::receive(database, lists, full, port, came, own, now)?;
+    push_step(step, out);
+    for (key, kept) in database.iter() {
+        push_kept(key, kept, out);
+    }
+    Ok(())
+}
+
+/// Appends the verdict, and what is to be done.
+fn push_step(step: Step, out: &mut Out) {
+    out.text(match step.verdict {
+        Verdict::Discarded => "-> Discarded",
+        Verdict::Acked => "-> Acked",
+        Verdict::Installed => "-> Installed",
+        Verdict::SentBack => "-> SentBack",
+        Verdict::Implied => "-> Implied",
+    });
+    out.flag(step.flush, " flush");
+    out.flag(step.renew, " renew");
+    out.text("\n");
 }
 
 /// Appends the lists of so many ports.
-fn push_lists(alloc: Global, out: &mut String, lists: &Lists, count: u8) -> Result<()>
+fn push_lists(lists: &Lists, count: u8, out: &mut Out) -> Result<(), NoMemory>
     requires { length lists.now ≡ count }
 {
     for port in 0..count {
-        let list = lists.entries(port)?;
-        push_list(alloc, out, port, list.as_slice())?;
+        push_list(port, lists.entries(port)?.as_slice(), out);
     }
     Ok(())
+}
+
+/// Appends what stands on a port's list.
+fn push_list(port: u8, list: &[(LsaKey, u32)], out: &mut Out) {
+    for (key, tick) in list {
+        out.number("-> list ", u64::from(port));
+        push_key(": ", *key, out);
+        out.number(" at ", u64::from(*tick));
+        out.text("\n");
+    }
 }

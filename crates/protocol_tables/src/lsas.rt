@@ -1,83 +1,74 @@
 //! LSAs that a line describes, and the text of a database and of retransmission lists.
 
-ghost use Rattle.std.specs.Prelude.{◌≡◌, ◌+◌, IfOk, length, OnOk};
+ghost use Rattle.std.specs.Prelude.{◌≡◌, ◌+◌, ◌≤◌, IfOk, length};
 
-use crate::fields::{bytes, hexadecimal, number, number8, number16};
-use anyhow::{Result, bail};
-use ospf_lsdb::{Kept, LsaKey, Lsdb};
-use ospf_wire::{Lsa, LsaHeader, fletcher_set};
+use crate::fields::Line;
+use crate::out::Out;
+use dn_guest::{Bytes, NoMemory};
+use ospf_lsdb::{Kept, LsaKey};
+use ospf_wire::{FIRST_SEQ, Lsa, LsaHeader, fletcher_set};
 use std::alloc::Global;
-use std::fmt::Write;
 
 /// The LSA of the fields: type, link state id and advertising router (1, 5 and 5 if nothing is said), age,
 /// sequence number, body, and the checksum if it is said, else the right one.
-pub fn lsa_of(alloc: Global, line: &str) -> Result<Lsa>
+pub fn lsa_of(alloc: Global, line: &mut Line<'_>) -> Result<Lsa, NoMemory>
     ensures { IfOk result (λ lsa. lsa.head.length ≡ 20 + length lsa.body) }
 {
-    let body = bytes(alloc, line, "body", &[0, 0, 0, 0])?;
-    if body.len() > 1_000 {
-        bail!("a body has at most 1,000 bytes");
-    }
-    let mut lsa = Lsa {
-        head: LsaHeader {
-            age: number16(line, "age", 0)?,
-            options: 2,
-            kind: number8(line, "type", 1)?,
-            id: number(line, "id", 5)?,
-            router: number(line, "adv", 5)?,
-            seq: hexadecimal(line, "seq", 0x8000_0001)?,
-            sum: 0,
-            length: (20 + body.len()) as u16,
-        },
-        body,
-    };
+    let body = body_of(alloc, line)?;
+    let head = header_of(line, 20 + body.len() as u16);
+    let mut lsa = Lsa { head, body };
     fletcher_set(&mut lsa);
-    let sum = hexadecimal(line, "sum", u32::from(lsa.head.sum))?;
-    lsa.head.sum = (sum % 65_536) as u16;
+    if let Some(sum) = line.some("sum", 16, 65_535) {
+        lsa.head.sum = sum as u16;
+    }
     Ok(lsa)
 }
 
-/// The name of an LSA as text: type, link state id and advertising router.
-fn name_text(alloc: Global, key: &LsaKey) -> Result<String> {
-    let LsaKey { kind, id, router } = *key;
-    Ok(format!(in alloc; "{kind}/{id}/{router}")?)
+/// The body of an LSA, at most 1,000 bytes; four zeros if it isn't said.
+fn body_of(alloc: Global, line: &mut Line<'_>) -> Result<Bytes, NoMemory>
+    ensures { IfOk result (λ body. length body ≤ 1000) }
+{
+    let body = line.bytes(alloc, "body", &[0, 0, 0, 0])?;
+    if body.len() > 1_000 {
+        line.refuse();
+        return Ok(Bytes::new(alloc));
+    }
+    Ok(body)
 }
 
-/// What is kept at a name, as a line.
-fn kept_text(alloc: Global, key: &LsaKey, kept: &Kept) -> Result<String> {
-    let name = name_text(alloc, key)?;
-    let age = kept.lsa.head.age;
-    let seq = kept.lsa.head.seq;
-    let installed = kept.installed;
-    let mut text = format!(in alloc;
-        "-> lsa {name} age {age} seq {seq:08x} installed {installed}"
-    )?;
-    if kept.flooded {
-        text.push_str(" flooded")?;
+/// The header of an LSA of so many bytes; its checksum is 0.
+fn header_of(line: &mut Line<'_>, length: u16) -> LsaHeader
+    ensures { result.length ≡ length }
+{
+    LsaHeader {
+        age: line.short("age", 0),
+        options: 2,
+        kind: line.byte("type", 1),
+        id: line.number("id", 5),
+        router: line.number("adv", 5),
+        seq: line.some("seq", 16, u32::MAX).unwrap_or(FIRST_SEQ),
+        sum: 0,
+        length,
     }
+}
+
+/// Appends an LSA of the database.
+pub fn push_kept(key: &LsaKey, kept: &Kept, out: &mut Out) {
+    push_key("-> lsa ", *key, out);
+    out.number(" age ", u64::from(kept.lsa.head.age));
+    out.hex(" seq ", &kept.lsa.head.seq.to_be_bytes());
+    out.number(" installed ", u64::from(kept.installed));
+    out.flag(kept.flooded, " flooded");
     if let Some(sent) = kept.sent {
-        write!(text, " sent {sent}")?;
+        out.number(" sent ", u64::from(sent));
     }
-    if kept.foreign {
-        text.push_str(" foreign")?;
-    }
-    text.push('\n')?;
-    Ok(text)
+    out.flag(kept.foreign, " foreign");
+    out.text("\n");
 }
 
-/// Appends all LSAs of the database, a line each.
-pub fn push_database(alloc: Global, out: &mut String, database: &Lsdb) -> Result<()> {
-    for (key, kept) in database.iter() {
-        out.push_str(kept_text(alloc, key, kept)?.as_str())?;
-    }
-    Ok(())
-}
-
-/// Appends a port's list, as a line, if there is something on it.
-pub fn push_list(alloc: Global, out: &mut String, port: u8, list: &[(LsaKey, u32)]) -> Result<()> {
-    for (key, tick) in list {
-        let name = name_text(alloc, key)?;
-        writeln!(out, "-> list {port}: {name} at {tick}")?;
-    }
-    Ok(())
+/// Appends the text, and the name of an LSA: type, link state id and advertising router.
+pub fn push_key(text: &str, key: LsaKey, out: &mut Out) {
+    out.number(text, u64::from(key.kind));
+    out.number("/", u64::from(key.id));
+    out.number("/", u64::from(key.router));
 }

@@ -1,32 +1,24 @@
 //! The routes of OSPF (RFC 2328 section 16.1): `router` and `lsa` install LSAs, `routes` tells the routes.
 
-ghost use Rattle.std.specs.Prelude.{◌≤◌, length};
-
-use crate::fields::{address, field, number, number16};
+use crate::fields::Line;
 use crate::lsas::lsa_of;
-use anyhow::{Result, bail};
+use crate::out::Out;
+use dn_guest::NoMemory;
 use ospf_lsdb::Lsdb;
 use ospf_spf::Route;
 use ospf_wire::{INITIAL_SEQUENCE_NUMBER, Lsa, LsaHeader, RouterLink, router_body};
 use std::alloc::Global;
-use std::fmt::Write;
 
 /// `router`: installs the router-LSA of a router at tick 0. Behind commas stand its links: `to` a router,
 /// with the link data and the metric, and `stub` to a network, with the mask and the metric.
-pub fn router(alloc: Global, database: &mut Lsdb, line: &str) -> Result<String> {
-    let name = line.split(',').next().unwrap_or(line);
-    let id = number(name, "router", 0)?;
-    let age = number16(name, "age", 0)?;
-    let mut links = Vec::new(alloc);
-    for part in line.split(',') {
-        if let Some(link) = link_of(part)? {
-            links.push(link)?;
-        }
-    }
+pub fn router(alloc: Global, database: &mut Lsdb, line: &mut Line<'_>) -> Result<(), NoMemory> {
+    let id = line.number("router", 0);
+    let age = line.short("age", 0);
+    let links = links_of(alloc, line)?;
     if links.len() > 100 {
-        bail!("a router has at most 100 links");
+        line.refuse();
+        return Ok(());
     }
-    let body = router_body(alloc, links.as_slice())?;
     let head = LsaHeader {
         age,
         options: 2,
@@ -37,69 +29,83 @@ pub fn router(alloc: Global, database: &mut Lsdb, line: &str) -> Result<String> 
         sum: 0,
         length: (24 + 12 * links.len()) as u16,
     };
-    database.install(Lsa { head, body }, 0, true, false)?;
-    Ok(String::new(alloc))
+    let body = router_body(alloc, links.as_slice())?;
+    database.install(Lsa { head, body }, 0, true, false)
 }
 
-/// The link that a part describes.
-fn link_of(part: &str) -> Result<Option<RouterLink>> {
-    let metric = number16(part, "metric", 0)?;
-    if field(part, "to").is_some() {
-        return Ok(Some(RouterLink {
-            id: number(part, "to", 0)?,
-            data: number(part, "data", 0)?,
+/// The links behind commas.
+fn links_of(alloc: Global, line: &mut Line<'_>) -> Result<Vec<RouterLink>, NoMemory> {
+    let mut links = Vec::new(alloc);
+    let Some(rest) = line.take_rest() else {
+        return Ok(links);
+    };
+    for text in rest.split(", ") {
+        links.push(link_of(text, line))?;
+    }
+    Ok(links)
+}
+
+/// The link that this text between commas describes; where it can't be read the line can't.
+fn link_of(text: &str, line: &mut Line<'_>) -> RouterLink {
+    let mut part = Line::new(text);
+    let metric = part.short("metric", 0);
+    let link = if part.verb() == "to" {
+        RouterLink {
+            id: part.number("to", 0),
+            data: part.number("data", 0),
             kind: 1,
             metric,
-        }));
-    }
-    if field(part, "stub").is_some() {
-        return Ok(Some(RouterLink {
-            id: address(part, "stub", 0)?,
-            data: address(part, "mask", 0)?,
+        }
+    } else {
+        RouterLink {
+            id: part.address("stub", 0),
+            data: part.address("mask", 0),
             kind: 3,
             metric,
-        }));
+        }
+    };
+    if !part.is_read() {
+        line.refuse();
     }
-    Ok(None)
+    link
 }
 
 /// `lsa`: installs the LSA at tick 0.
-pub fn lsa(alloc: Global, database: &mut Lsdb, line: &str) -> Result<String> {
-    database.install(lsa_of(alloc, line)?, 0, true, false)?;
-    Ok(String::new(alloc))
+pub fn lsa(alloc: Global, database: &mut Lsdb, line: &mut Line<'_>) -> Result<(), NoMemory> {
+    database.install(lsa_of(alloc, line)?, 0, true, false)
 }
 
 /// `routes`: the routes of a router at the tick `now`.
-pub fn routes(alloc: Global, database: &Lsdb, line: &str) -> Result<String> {
+pub fn routes(
+    alloc: Global,
+    database: &Lsdb,
+    line: &mut Line<'_>,
+    out: &mut Out,
+) -> Result<(), NoMemory> {
+    let root = line.number("routes", 0);
+    let now = line.number("now", 0);
     if database.len() > 65_535 {
-        bail!("a database has at most 65,535 LSAs");
+        line.refuse();
+        return Ok(());
     }
-    let root = number(line, "routes", 0)?;
-    let found = ospf_spf::routes(alloc, database, root, number(line, "now", 0)?)?;
-    let mut text = String::new(alloc);
-    if found.is_empty() {
-        text.push_str("-> none\n")?;
-    }
+    let found = ospf_spf::routes(alloc, database, root, now)?;
+    out.flag(found.is_empty(), "-> none\n");
     for route in found.as_slice() {
-        push_route(&mut text, route)?;
+        push_route(*route, out);
     }
-    Ok(text)
+    Ok(())
 }
 
-/// Appends a route; `via` are the ports.
-fn push_route(out: &mut String, route: &Route) -> Result<()> {
-    let [a, b, c, d] = route.prefix.to_be_bytes();
-    let len = route.len;
-    let cost = route.cost;
-    write!(out, "-> {a}.{b}.{c}.{d}/{len} cost {cost}")?;
-    if route.own {
-        out.push_str(" own")?;
-    }
-    for port in 0..16u8 {
-        if route.via & (1u16 << port) != 0 {
-            write!(out, " port {port}")?;
+/// Appends a route, with the ports by which its ways begin.
+fn push_route(route: Route, out: &mut Out) {
+    out.address("-> ", route.prefix);
+    out.number("/", u64::from(route.len));
+    out.number(" cost ", u64::from(route.cost));
+    out.flag(route.own, " own");
+    for port in 0..16u16 {
+        if route.via & (1 << port) != 0 {
+            out.number(" port ", u64::from(port));
         }
     }
-    out.push('\n')?;
-    Ok(())
+    out.text("\n");
 }

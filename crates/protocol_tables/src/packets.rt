@@ -1,76 +1,116 @@
 //! Bytes that are read and written again: OSPF packets, bodies of router-LSAs, RIP messages.
 
-use crate::fields::bytes;
-use anyhow::Result;
-use dn_guest::Bytes;
-use ospf_wire::{RouterLink, is_well_formed, router_links};
-use std::alloc::Global;
-use std::fmt::Write;
+ghost use Rattle.ospf_wire.specs.Packets.{IsEncodable};
+ghost use Rattle.rip_wire.specs.Messages.{IsEncodable as CanWrite};
 
-/// The text of bytes that were written.
-fn written(alloc: Global, out: &Bytes) -> Result<String> {
-    let mut text = String::from_str(alloc, "->")?;
-    text.push(' ')?;
-    for byte in out.as_slice() {
-        write!(text, "{byte:02x}")?;
-    }
-    text.push('\n')?;
-    Ok(text)
-}
+use crate::fields::Line;
+use crate::out::Out;
+use dn_guest::{Bytes, NoMemory};
+use ospf_wire::{Packet, RouterLink, is_well_formed, router_links};
+use rip_wire::Message;
+use std::alloc::Global;
 
 /// `packet`: an OSPF packet is read and written again. Its checksum is told if it isn't zero.
-pub fn packet(alloc: Global, line: &str) -> Result<String> {
-    let came = bytes(alloc, line, "packet", &[])?;
-    let Some(packet) = ospf_wire::decode(alloc, came.as_slice())? else {
-        return Ok(String::from_str(alloc, "-> no packet\n")?);
-    };
-    let mut out = Bytes::new(alloc);
-    ospf_wire::encode(alloc, &packet, &mut out)?;
-    let mut text = written(alloc, &out)?;
-    let sum = ospf_wire::ip_sum(came.as_slice());
-    if sum != 0 {
-        writeln!(text, "-> sum {sum}")?;
+pub fn packet(alloc: Global, line: &mut Line<'_>, out: &mut Out) -> Result<(), NoMemory> {
+    let came = line.bytes(alloc, "packet", &[])?;
+    push_packet(alloc, came.as_slice(), out)
+}
+
+fn push_packet(alloc: Global, came: &[u8], out: &mut Out) -> Result<(), NoMemory> {
+    match ospf_wire::decode(alloc, came)? {
+        None => {
+            out.text("-> no packet\n");
+            Ok(())
+        }
+        Some(packet) => push_packet_again(alloc, &packet, ospf_wire::ip_sum(came), out),
     }
-    Ok(text)
+}
+
+fn push_packet_again(
+    alloc: Global,
+    packet: &Packet,
+    sum: u16,
+    out: &mut Out,
+) -> Result<(), NoMemory>
+    requires { IsEncodable packet.now }
+{
+    let mut again = Bytes::new(alloc);
+    ospf_wire::encode(alloc, packet, &mut again)?;
+    out.hex("-> ", again.as_slice());
+    out.text("\n");
+    push_sum(sum, out);
+    Ok(())
+}
+
+/// Appends the checksum of a packet if it isn't zero.
+fn push_sum(sum: u16, out: &mut Out) {
+    if sum != 0 {
+        out.number("-> sum ", u64::from(sum));
+        out.text("\n");
+    }
 }
 
 /// `message`: a RIP message is read and written again.
-pub fn message(alloc: Global, line: &str) -> Result<String> {
-    let came = bytes(alloc, line, "message", &[])?;
-    let Some(message) = rip_wire::decode(alloc, came.as_slice())? else {
-        return Ok(String::from_str(alloc, "-> no message\n")?);
-    };
-    let mut out = Bytes::new(alloc);
-    rip_wire::encode(&message, &mut out)?;
-    written(alloc, &out)
+pub fn message(alloc: Global, line: &mut Line<'_>, out: &mut Out) -> Result<(), NoMemory> {
+    let came = line.bytes(alloc, "message", &[])?;
+    push_message(alloc, came.as_slice(), out)
+}
+
+fn push_message(alloc: Global, came: &[u8], out: &mut Out) -> Result<(), NoMemory> {
+    match rip_wire::decode(alloc, came)? {
+        None => {
+            out.text("-> no message\n");
+            Ok(())
+        }
+        Some(message) => push_message_again(alloc, &message, out),
+    }
+}
+
+fn push_message_again(alloc: Global, message: &Message, out: &mut Out) -> Result<(), NoMemory>
+    requires { CanWrite message.now }
+{
+    let mut again = Bytes::new(alloc);
+    rip_wire::encode(message, &mut again)?;
+    out.hex("-> ", again.as_slice());
+    out.text("\n");
+    Ok(())
 }
 
 /// `body`: the links of the body of a router-LSA.
-pub fn body(alloc: Global, line: &str) -> Result<String> {
-    let came = bytes(alloc, line, "body", &[])?;
-    let links = router_links(alloc, came.as_slice())?;
-    let formed = is_well_formed(came.as_slice());
-    match links {
-        Some(links) if formed => links_text(alloc, links.as_slice()),
-        None if !formed => Ok(String::from_str(alloc, "-> no body\n")?),
-        _ => Ok(String::from_str(alloc, "-> read and refused\n")?),
+pub fn body(alloc: Global, line: &mut Line<'_>, out: &mut Out) -> Result<(), NoMemory> {
+    let came = line.bytes(alloc, "body", &[])?;
+    push_body(alloc, came.as_slice(), out)
+}
+
+fn push_body(alloc: Global, came: &[u8], out: &mut Out) -> Result<(), NoMemory> {
+    let formed = is_well_formed(came);
+    match router_links(alloc, came)? {
+        None => out.text(if formed {
+            "-> refused and formed\n"
+        } else {
+            "-> no body\n"
+        }),
+        Some(links) => {
+            out.flag(!formed, "-> read and refused\n");
+            push_links(links.as_slice(), out);
+        }
+    }
+    Ok(())
+}
+
+/// Appends how many links there are, and each.
+fn push_links(links: &[RouterLink], out: &mut Out) {
+    out.number("-> links ", links.len() as u64);
+    out.text("\n");
+    for link in links {
+        push_link(*link, out);
     }
 }
 
-fn links_text(alloc: Global, links: &[RouterLink]) -> Result<String> {
-    let count = links.len();
-    let mut text = format!(in alloc; "-> links {count}\n")?;
-    for link in links {
-        let RouterLink {
-            id,
-            data,
-            kind,
-            metric,
-        } = *link;
-        writeln!(
-            text,
-            "-> type {kind} id {id:08x} data {data:08x} metric {metric}"
-        )?;
-    }
-    Ok(text)
+fn push_link(link: RouterLink, out: &mut Out) {
+    out.number("-> type ", u64::from(link.kind));
+    out.hex(" id ", &link.id.to_be_bytes());
+    out.hex(" data ", &link.data.to_be_bytes());
+    out.number(" metric ", u64::from(link.metric));
+    out.text("\n");
 }
