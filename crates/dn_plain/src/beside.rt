@@ -9,7 +9,7 @@ use dn_model::{Case, Event};
 use std::alloc::Global;
 
 /// Flooding guests that have seen nothing.
-pub(crate) fn guests(alloc: Global, count: usize) -> Result<Vec<Flood>, NoMemory>
+fn guests(alloc: Global, count: usize) -> Result<Vec<Flood>, NoMemory>
     ensures { IfOk result (λ made. length made.items ≡ count) }
 {
     let mut made = Vec::new(alloc);
@@ -109,12 +109,26 @@ fn do_the_same(
     Ok(false)
 }
 
+/// The engine of the case before its first row. All of its routers flood.
+pub(crate) fn opening(alloc: Global, case: &Case) -> Result<Engine<Flood>, NoMemory>
+    ensures { IfOk result (λ made. made.header ≡ case.now.header) }
+{
+    let count = case.header.routers.as_slice().len();
+    Engine::new(alloc, case, guests(alloc, count)?)
+}
+
+/// The plain engine of the case before its first row.
+fn plain_opening(alloc: Global, case: &Case) -> Result<PlainEngine<Flood>, NoMemory> {
+    let count = case.header.routers.as_slice().len();
+    PlainEngine::new(alloc, case, guests(alloc, count)?)
+}
+
 /// How many rows both engines have handled, if they do the same on the case up to its end.
 pub(crate) fn rows_of_both(alloc: Global, case: &Case) -> Result<Option<u64>, NoMemory> {
-    let count = case.header.routers.as_slice().len();
-    let mut engine = Engine::new(alloc, case, guests(alloc, count)?)?;
-    let mut plain = PlainEngine::new(alloc, case, guests(alloc, count)?)?;
-    if do_the_same(alloc, &mut engine, &mut plain, count as u16)? {
+    let count = case.header.routers.as_slice().len() as u16;
+    let mut engine = opening(alloc, case)?;
+    let mut plain = plain_opening(alloc, case)?;
+    if do_the_same(alloc, &mut engine, &mut plain, count)? {
         Ok(Some(engine.place()))
     } else {
         Ok(None)

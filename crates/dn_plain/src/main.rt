@@ -14,8 +14,8 @@
 //! | `after COUNT` | it is told how `Engine` is after so many rows: the last one and the next one, how many messages each router has sent, and the messages on their way |
 //! | a line that begins with `=` | it is skipped, since the program writes its own: what came of the line before it |
 //!
-//! A line that can't be read is named on standard error, and the status is 2; it is 3 when memory is out, and
-//! 4 when the input can't be read or the output not written.
+//! At a line or a case that can't be read the output ends behind it, and the status is 2; it is 3 out of memory,
+//! and 4 when the input can't be read or the output not written.
 //!
 //! | File | What it has |
 //! |---|---|
@@ -32,47 +32,27 @@ mod plain;
 mod shown;
 mod table;
 
-use crate::table::{Fault, written_again};
+use crate::table::write_again;
 use dn_guest::Bytes;
-use dn_io::{ReadError, StdSink, StdSource, put_all, read_all};
-use dn_text::push_decimal;
-use std::alloc::{AllocError, Global};
-use std::io::Write;
+use dn_io::{StdSink, StdSource, put_all, read_all};
 use std::process::ExitCode;
 
 /// The most bytes of a table.
 const MOST: u64 = 1_048_576;
 
-/// What a line says on standard error that can't be read.
-fn told(alloc: Global, line: u64) -> Result<Bytes, AllocError> {
-    let mut out = Bytes::from_slice(alloc, b"dn_plain: line ")?;
-    push_decimal(&mut out, line)?;
-    out.push(b'\n')?;
-    Ok(out)
-}
-
 fn main(rt: HostRuntime) -> ExitCode {
     let alloc = rt.alloc();
     let mut source = StdSource::new(rt.stdin());
-    let text = match read_all(alloc, &mut source, MOST) {
-        Ok(text) => text,
-        Err(ReadError::NoMemory) => return ExitCode::from(3),
-        Err(_) => return ExitCode::from(4),
+    let Ok(text) = read_all(alloc, &mut source, MOST) else {
+        return ExitCode::from(4);
     };
-    match written_again(alloc, text.as_slice()) {
-        Ok(out) => {
-            let mut sink = StdSink::new(rt.stdout());
-            if put_all(&mut sink, out.as_slice()).is_err() {
-                return ExitCode::from(4);
-            }
-            ExitCode::from(0)
-        }
-        Err(Fault::NoMemory) => ExitCode::from(3),
-        Err(Fault::Line(line)) => {
-            if let Ok(line) = told(alloc, line) {
-                let _ = rt.stderr().write(line.as_slice());
-            }
-            ExitCode::from(2)
-        }
+    let mut out = Bytes::new(alloc);
+    let Ok(whole) = write_again(alloc, text.as_slice(), &mut out) else {
+        return ExitCode::from(3);
+    };
+    let mut sink = StdSink::new(rt.stdout());
+    if put_all(&mut sink, out.as_slice()).is_err() {
+        return ExitCode::from(4);
     }
+    ExitCode::from(if whole { 0 } else { 2 })
 }

@@ -2,23 +2,15 @@
 
 ghost use Rattle.std.specs.Prelude.{◌≡◌, length, IfOk};
 
-use crate::beside::guests;
+use crate::beside::opening;
 use dn_guest::{Bytes, Flood, Input, NoMemory};
 use dn_lockstep::{Engine, Next};
 use dn_model::{Case, Event, Key};
 use dn_text::{push_decimal, push_hex};
 use std::alloc::Global;
 
-/// The engine of the case before its first row. All of its routers flood.
-fn opening(alloc: Global, case: &Case) -> Result<Engine<Flood>, NoMemory>
-    ensures { IfOk result (λ made. made.header ≡ case.now.header) }
-{
-    let count = case.header.routers.as_slice().len();
-    Engine::new(alloc, case, guests(alloc, count)?)
-}
-
 /// A word and a number.
-fn push_number(out: &mut Bytes, word: &[u8], number: u64) -> Result<(), NoMemory> {
+pub(crate) fn push_number(out: &mut Bytes, word: &[u8], number: u64) -> Result<(), NoMemory> {
     out.append(word)?;
     push_decimal(out, number)
 }
@@ -61,18 +53,21 @@ fn push_answer(next: Next, out: &mut Bytes) -> Result<(), NoMemory> {
     }
 }
 
+/// How the rows end: the answer, how many there were, and the next one.
+fn push_end(engine: &Engine<Flood>, answer: Next, out: &mut Bytes) -> Result<(), NoMemory> {
+    push_answer(answer, out)?;
+    push_number(out, b"= rows ", engine.place())?;
+    out.push(b'\n')?;
+    push_event(b"= next ", engine.peek(), out)
+}
+
 /// The rows of the case, and how they end, at most 10,000 of them.
 pub(crate) fn push_rows(alloc: Global, case: &Case, out: &mut Bytes) -> Result<(), NoMemory> {
     let mut engine = opening(alloc, case)?;
     for _row in 0..10_000 {
         match engine.next(alloc)? {
             Next::Row => push_event(b"= ", engine.last(), out)?,
-            answer => {
-                push_answer(answer, out)?;
-                push_number(out, b"= rows ", engine.place())?;
-                out.push(b'\n')?;
-                return push_event(b"= next ", engine.peek(), out);
-            }
+            answer => return push_end(&engine, answer, out),
         }
     }
     Ok(())
@@ -129,6 +124,21 @@ fn after(alloc: Global, case: &Case, rows: u64) -> Result<Engine<Flood>, NoMemor
     Ok(engine)
 }
 
+/// The last row and the next one, how many messages each router has sent, and the messages on their way.
+fn push_engine(
+    alloc: Global,
+    engine: &Engine<Flood>,
+    count: u16,
+    out: &mut Bytes,
+) -> Result<(), NoMemory>
+    requires { count ≡ length engine.now.header.routers }
+{
+    push_event(b"= last ", engine.last(), out)?;
+    push_event(b"= next ", engine.peek(), out)?;
+    push_sends(engine, count, out)?;
+    push_messages(alloc, engine, count, out)
+}
+
 /// How the engine of the case is after so many rows.
 pub(crate) fn push_after(
     alloc: Global,
@@ -138,8 +148,5 @@ pub(crate) fn push_after(
 ) -> Result<(), NoMemory> {
     let engine = after(alloc, case, rows)?;
     let count = case.header.routers.as_slice().len() as u16;
-    push_event(b"= last ", engine.last(), out)?;
-    push_event(b"= next ", engine.peek(), out)?;
-    push_sends(&engine, count, out)?;
-    push_messages(alloc, &engine, count, out)
+    push_engine(alloc, &engine, count, out)
 }

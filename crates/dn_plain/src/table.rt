@@ -1,74 +1,49 @@
 //! The lines of a table, one after another.
 
-ghost use Rattle.std.specs.Prelude.{◌<◌, length, IfOk};
-
 use crate::beside::rows_of_both;
-use crate::shown::{push_after, push_rows};
-use dn_case::{CaseError, read_case};
+use crate::shown::{push_after, push_number, push_rows};
+use dn_case::read_case;
 use dn_guest::{Bytes, NoMemory};
 use dn_model::Case;
-use dn_text::{decimal, first_line, push_decimal};
-use std::alloc::{AllocError, Global};
-
-/// Why a table isn't written again.
-#[derive(Debug, Drop)]
-pub(crate) enum Fault {
-    /// The line of this number, from 1, can't be read.
-    Line(u64),
-    /// There was no memory.
-    NoMemory,
-}
-
-impl From<AllocError> for Fault {
-    fn from(_error: AllocError) -> Fault {
-        Fault::NoMemory
-    }
-}
+use dn_text::{decimal, first_line};
+use std::alloc::Global;
+use std::mem;
 
 /// A table up to a line.
 #[derive(Drop)]
 struct Table {
-    alloc: Global,
-    /// What was written so far.
-    out: Bytes,
-    /// How many lines were read.
-    lines: u64,
+    /// The lines of a case that isn't at its end.
+    block: Bytes,
     /// The case that came last.
     case: Option<Case>,
 }
 
-/// The table, with what comes of its lines.
-pub(crate) fn written_again(alloc: Global, text: &[u8]) -> Result<Bytes, Fault> {
+/// Writes the table again, with what comes of its lines, up to the first one that can't be read. Whether all
+/// could be.
+pub(crate) fn write_again(alloc: Global, text: &[u8], out: &mut Bytes) -> Result<bool, NoMemory> {
     let mut table = Table {
-        alloc,
-        out: Bytes::new(alloc),
-        lines: 0,
+        block: Bytes::new(alloc),
         case: None,
     };
-    let mut left = text;
-    'blocks: while !left.is_empty() {
-        left = table.take_block(left)?;
-    }
-    Ok(table.out)
-}
-
-/// How many lines a text has.
-fn count_lines(text: &[u8]) -> u64 {
-    let mut count: u64 = 0;
-    for byte in text {
-        if *byte == b'\n' {
-            count = count.saturating_add(1);
+    let mut rest = text;
+    'lines: while !rest.is_empty() {
+        let (line, behind) = first_line(rest);
+        rest = behind;
+        if !line.starts_with(b"=") {
+            out.append(line)?;
+            if !table.take_line(alloc, line, out)? {
+                return Ok(false);
+            }
         }
     }
-    count
+    Ok(table.block.is_empty())
 }
 
 /// Runs both engines on the case, and tells whether they do the same.
 fn push_beside(alloc: Global, case: &Case, out: &mut Bytes) -> Result<(), NoMemory> {
     match rows_of_both(alloc, case)? {
         Some(rows) => {
-            out.append(b"= alike; rows ")?;
-            push_decimal(out, rows)?;
+            push_number(out, b"= alike; rows ", rows)?;
             out.push(b'\n')
         }
         None => out.append(b"= they differ\n"),
@@ -80,67 +55,51 @@ fn after_of(line: &[u8]) -> Option<u64> {
     decimal(line.strip_prefix(b"after ")?.strip_suffix(b"\n")?)
 }
 
+/// Tells what the line asks for of the case. Whether it could be read.
+fn follow(alloc: Global, case: &Case, line: &[u8], out: &mut Bytes) -> Result<bool, NoMemory> {
+    if line == b"beside\n".as_slice() {
+        push_beside(alloc, case, out)?;
+    } else if line == b"rows\n".as_slice() {
+        push_rows(alloc, case, out)?;
+    } else if let Some(rows) = after_of(line) {
+        push_after(alloc, case, rows, out)?;
+    } else {
+        return Ok(false);
+    }
+    Ok(true)
+}
+
+/// The case of a text; None where it can't be read.
+fn case_of(alloc: Global, text: &[u8]) -> Option<Case> {
+    match read_case(alloc, text) {
+        Ok((case, _size)) => Some(case),
+        Err(_) => None,
+    }
+}
+
 impl Table {
-    /// Takes a line at the front of the text, or a case; what stands behind it.
-    fn take_block<'a>(&mut self, text: &'a [u8]) -> Result<&'a [u8], Fault>
-        requires { 0 < length text.now }
-        ensures { IfOk result (λ rest. length rest.now < length text.now) }
-    {
-        let (line, _) = first_line(text);
-        let size = if line.starts_with(b"defined ") {
-            self.take_case(text)?
-        } else {
-            self.take_line(line)?;
-            line.len()
-        };
-        if size == 0 || size > text.len() {
-            return Err(self.bad(0));
-        }
-        self.lines = self.lines.saturating_add(count_lines(&text[..size]));
-        Ok(&text[size..])
-    }
-
-    /// The line behind this many more can't be read.
-    fn bad(&self, more: u64) -> Fault {
-        Fault::Line(self.lines.saturating_add(more).saturating_add(1))
-    }
-
-    /// The case at the front of the text; how many bytes it has.
-    fn take_case(&mut self, text: &[u8]) -> Result<usize, Fault> {
-        let (case, size) = match read_case(self.alloc, text) {
-            Ok(found) => found,
-            Err(CaseError::Fault(fault)) => return Err(self.bad(fault.line.saturating_sub(1))),
-            Err(CaseError::NoMemory) => return Err(Fault::NoMemory),
-        };
-        let size = size as usize;
-        if size <= text.len() {
-            self.out.append(&text[..size])?;
-        }
-        self.case = Some(case);
-        Ok(size)
-    }
-
-    /// A line that stands alone.
-    fn take_line(&mut self, line: &[u8]) -> Result<(), Fault> {
-        if line.starts_with(b"=") {
-            return Ok(());
-        }
-        self.out.append(line)?;
+    /// Takes a line. Whether it could be read.
+    fn take_line(&mut self, alloc: Global, line: &[u8], out: &mut Bytes) -> Result<bool, NoMemory> {
         if line.starts_with(b"#") || line == b"\n".as_slice() {
-            return Ok(());
+            return Ok(true);
         }
-        let Some(case) = self.case.as_ref() else {
-            return Err(self.bad(0));
-        };
-        if line == b"beside\n".as_slice() {
-            push_beside(self.alloc, case, &mut self.out)?;
-        } else if line == b"rows\n".as_slice() {
-            push_rows(self.alloc, case, &mut self.out)?;
-        } else if let Some(rows) = after_of(line) {
-            push_after(self.alloc, case, rows, &mut self.out)?;
-        } else {
-            return Err(self.bad(0));
+        if self.block.is_empty() && !line.starts_with(b"defined ") {
+            return match self.case.as_ref() {
+                Some(case) => follow(alloc, case, line, out),
+                None => Ok(false),
+            };
         }
-        Ok(())
+        self.block.append(line)?;
+        if line == b"end\n".as_slice() {
+            return Ok(self.take_case(alloc));
+        }
+        Ok(true)
+    }
+
+    /// The case in the block is the one that the next lines speak of. Whether it could be read.
+    fn take_case(&mut self, alloc: Global) -> bool {
+        let block = mem::replace(&mut self.block, Bytes::new(alloc));
+        self.case = case_of(alloc, block.as_slice());
+        self.case.is_some()
     }
 }

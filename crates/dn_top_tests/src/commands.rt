@@ -2,9 +2,9 @@
 
 ghost use Rattle.std.specs.Prelude.{◌≤◌};
 
-use dn_guest::{Bytes, NoMemory};
+use dn_guest::NoMemory;
 use dn_io::{MemSink, MemSource};
-use dn_top::{Status, defined_top, status_line};
+use dn_top::{Status, defined_top};
 use std::alloc::Global;
 
 /// The case of two routers.
@@ -21,13 +21,6 @@ pub const TWO_ROUTERS: &[u8] = b"\
     @2 a down 0\n\
     end\n\
 ";
-
-/// The smallest case.
-pub const SMALLEST: &[u8] = b"defined 1\nperiod 1\ngroups 1\nseed 0\nrouter a flood\nfeed\nend\n";
-
-/// Its trace.
-pub const SMALLEST_TRACE: &[u8] =
-    b"trace\n0 0 t 0000000000000000 0 0 a tick\nstate a 0 0000 0000\nend trace 1\n";
 
 /// Words of a command, which stand one space apart.
 pub fn words_of(alloc: Global, words: &str) -> Result<Vec<String>, NoMemory> {
@@ -57,32 +50,4 @@ pub fn outcome(
     let mut sink = MemSink::new(alloc, writes, piece, 16_777_216)?;
     let status = defined_top(alloc, words.as_slice(), &mut source, &mut sink);
     Ok((status, sink))
-}
-
-/// The same with no fault, in large pieces.
-pub fn plain_outcome(
-    alloc: Global,
-    words: &str,
-    input: &[u8],
-) -> Result<(Status, MemSink), NoMemory> {
-    outcome(alloc, words, input, 4096, &[], &[])
-}
-
-/// The line on standard error of a command that wrote nothing; else what it wrote.
-pub fn told(alloc: Global, words: &str, input: &[u8]) -> Result<Bytes, NoMemory> {
-    let (status, sink) = plain_outcome(alloc, words, input)?;
-    if sink.as_slice().is_empty() {
-        return status_line(alloc, &status);
-    }
-    let mut wrote = Bytes::new(alloc);
-    wrote.append(sink.as_slice())?;
-    Ok(wrote)
-}
-
-/// A text and what stands behind it.
-pub fn joined(alloc: Global, text: &[u8], behind: &[u8]) -> Result<Bytes, NoMemory> {
-    let mut both = Bytes::new(alloc);
-    both.append(text)?;
-    both.append(behind)?;
-    Ok(both)
 }

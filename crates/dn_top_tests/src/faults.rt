@@ -10,8 +10,8 @@ fn small_pieces_change_nothing(rt: HostRuntime) -> Result<(), Fail> {
     let (_, whole) = outcome(alloc, "run", TWO_ROUTERS, 4096, &[], &[])?;
     for piece in [1, 7] {
         let (status, sink) = outcome(alloc, "run", TWO_ROUTERS, piece, &[], &[])?;
-        assert_eq!(rt; status_number(&status), 0);
-        assert_eq!(rt; sink.as_slice(), whole.as_slice());
+        assert!(rt; status_number(&status) == 0);
+        assert!(rt; sink.as_slice() == whole.as_slice());
     }
     Ok(())
 }
@@ -19,10 +19,9 @@ fn small_pieces_change_nothing(rt: HostRuntime) -> Result<(), Fail> {
 #[test]
 fn a_read_fault_writes_nothing(rt: HostRuntime) -> Result<(), Fail> {
     let (status, sink) = outcome(rt.alloc(), "run", TWO_ROUTERS, 40, &[1], &[])?;
-    assert_eq!(rt; status_number(&status), 5);
-    assert_eq!(rt;
-        status_line(rt.alloc(), &status)?.as_slice(),
-        b"defined: read fault\n".as_slice()
+    assert!(rt; status_number(&status) == 5);
+    assert!(rt;
+        status_line(rt.alloc(), &status)?.as_slice() == b"defined: read fault\n".as_slice()
     );
     assert!(rt; sink.as_slice().is_empty());
     Ok(())
@@ -31,12 +30,11 @@ fn a_read_fault_writes_nothing(rt: HostRuntime) -> Result<(), Fail> {
 #[test]
 fn a_write_fault_leaves_a_front(rt: HostRuntime) -> Result<(), Fail> {
     let (status, sink) = outcome(rt.alloc(), "run", TWO_ROUTERS, 40, &[], &[2])?;
-    assert_eq!(rt; status_number(&status), 6);
-    assert_eq!(rt;
-        status_line(rt.alloc(), &status)?.as_slice(),
-        b"defined: write fault\n".as_slice()
+    assert!(rt; status_number(&status) == 6);
+    assert!(rt;
+        status_line(rt.alloc(), &status)?.as_slice() == b"defined: write fault\n".as_slice()
     );
-    assert_eq!(rt; sink.as_slice().len(), 80);
+    assert!(rt; sink.as_slice().len() == 80);
     assert!(rt; TWO_ROUTERS.starts_with(sink.as_slice()));
     Ok(())
 }

@@ -85,17 +85,16 @@ const SIX_ROUTERS: &[u8] = b"\
 #[test]
 fn a_network_is_reached_over_both_ways(rt: HostRuntime) -> Result<(), Fail> {
     let early = shown_before(rt.alloc(), SIX_ROUTERS, 0, 50)?;
-    assert_eq!(rt;
-        early.as_slice(),
-        b"neighbour 0 full 2\nneighbour 1 full 4\nroute 10.0.6.0/24 31 via 0 1\n".as_slice()
+    assert!(rt;
+        early.as_slice()
+            == b"neighbour 0 full 2\nneighbour 1 full 4\nroute 10.0.6.0/24 31 via 0 1\n".as_slice()
     );
     let cut_off = shown_before(rt.alloc(), SIX_ROUTERS, 0, 90)?;
-    assert_eq!(rt;
-        cut_off.as_slice(),
-        b"neighbour 0 full 2\nroute 10.0.6.0/24 31 via 0\n".as_slice()
+    assert!(rt;
+        cut_off.as_slice() == b"neighbour 0 full 2\nroute 10.0.6.0/24 31 via 0\n".as_slice()
     );
     let late = shown_before(rt.alloc(), SIX_ROUTERS, 0, 199)?;
-    assert_eq!(rt; late.as_slice(), early.as_slice());
+    assert!(rt; late.as_slice() == early.as_slice());
     Ok(())
 }
 
@@ -121,13 +120,10 @@ const TRIANGLE: &[u8] = b"\
 #[test]
 fn a_withdrawn_network_is_told_and_collected(rt: HostRuntime) -> Result<(), Fail> {
     let told = shown_before(rt.alloc(), TRIANGLE, 1, 40)?;
-    assert_eq!(rt; told.as_slice(), b"route 10.9.0.0/16 2 via 0\n".as_slice());
+    assert!(rt; told.as_slice() == b"route 10.9.0.0/16 2 via 0\n".as_slice());
     for group in [41, 160] {
         let withdrawn = shown_before(rt.alloc(), TRIANGLE, 1, group)?;
-        assert_eq!(rt;
-            withdrawn.as_slice(),
-            b"route 10.9.0.0/16 16 via 0\n".as_slice()
-        );
+        assert!(rt; withdrawn.as_slice() == b"route 10.9.0.0/16 16 via 0\n".as_slice());
     }
     let collected = shown_before(rt.alloc(), TRIANGLE, 1, 161)?;
     assert!(rt; collected.as_slice().is_empty());
@@ -158,15 +154,15 @@ fn a_router_begins_with_its_settings(rt: HostRuntime) -> Result<(), Fail> {
     let (case, _) = read_case(rt.alloc(), THREE_LINKS)
         .ok()
         .ok_or("it is a case")?;
-    assert_eq!(rt; case.header.routers.as_slice().len(), 2);
-    assert_eq!(rt; make(rt.alloc(), &case.header, 0)?.sort(), 0);
+    assert!(rt; case.header.routers.as_slice().len() == 2);
+    assert!(rt; make(rt.alloc(), &case.header, 0)?.sort() == 0);
     let guest = make(rt.alloc(), &case.header, 1)?;
-    assert_eq!(rt; guest.sort(), 2);
+    assert!(rt; guest.sort() == 2);
     let mut image = Bytes::new(rt.alloc());
     guest.image(rt.alloc(), &mut image)?;
-    assert_eq!(rt;
-        image.as_slice(),
-        b"\x00\x01\x00\x00\x00\x00\x03\x07\x10\x10\x00\x01\x0a\x09\x00\x00\x10\x00\x00\x01\xff\x00\x00\x00\x00\x00".as_slice()
+    assert!(rt;
+        image.as_slice()
+            == b"\x00\x01\x00\x00\x00\x00\x03\x07\x10\x10\x00\x01\x0a\x09\x00\x00\x10\x00\x00\x01\xff\x00\x00\x00\x00\x00".as_slice()
     );
     Ok(())
 }

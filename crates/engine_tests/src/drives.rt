@@ -8,9 +8,8 @@ use dn_drive::{Ended, laws, replay};
 use dn_fabric::Fabric;
 use dn_guest::{Flood, NoMemory};
 use dn_journal::{Step, read_journal};
-use dn_model::Case;
-use std::alloc::Global;
-use std::test::Fail;
+use dn_model::{Case, Header};
+use std::alloc::{AllocError, Global};
 
 /// Two linked routers, a command at a, and a port of a that goes down two groups later.
 const CASE: &[u8] =
@@ -41,35 +40,53 @@ fn fabric(alloc: Global, case: &Case) -> Result<Fabric<Flood>, NoMemory>
     Fabric::new(alloc, header, guests)
 }
 
-/// What the steps of the late message come to with one more step; None where they can't be read.
-fn late_message_and(alloc: Global, step: Step) -> Result<Option<Ended>, NoMemory> {
-    let Ok((case, _size)) = read_case(alloc, CASE) else {
-        return Ok(None);
-    };
-    let Ok(mut steps) = read_journal(alloc, &case.header, LATE) else {
-        return Ok(None);
-    };
-    steps.push(step)?;
+/// The case of the two routers.
+fn case(alloc: Global) -> Result<Case, NoMemory> {
+    match read_case(alloc, CASE) {
+        Ok((case, _size)) => Ok(case),
+        Err(_) => Err(AllocError),
+    }
+}
+
+/// The steps of the late message, and one more.
+fn late_steps_and(alloc: Global, header: &Header, step: Step) -> Result<Vec<Step>, NoMemory> {
+    match read_journal(alloc, header, LATE) {
+        Ok(mut steps) => {
+            steps.push(step)?;
+            Ok(steps)
+        }
+        Err(_) => Err(AllocError),
+    }
+}
+
+/// What the steps come to in the case.
+fn replayed(alloc: Global, case: &Case, steps: &[Step]) -> Result<Ended, NoMemory> {
     let feed = case.feed.as_slice();
-    let mut fabric = fabric(alloc, &case)?;
-    Ok(Some(replay(alloc, &mut fabric, feed, steps.as_slice())?))
+    let mut fabric = fabric(alloc, case)?;
+    replay(alloc, &mut fabric, feed, steps)
+}
+
+/// What the steps of the late message come to with one more step.
+fn late_message_and(alloc: Global, step: Step) -> Result<Ended, NoMemory> {
+    let case = case(alloc)?;
+    let steps = late_steps_and(alloc, &case.header, step)?;
+    replayed(alloc, &case, steps.as_slice())
 }
 
 /// A router that the case doesn't have handles nothing and takes nothing back.
 #[test]
-fn no_such_router(rt: HostRuntime) -> Result<(), Fail> {
+fn no_such_router(rt: HostRuntime) -> Result<(), NoMemory> {
     let handled = late_message_and(rt.alloc(), Step::Handle(2))?;
+    assert!(rt; matches!(handled, Ended::Illegal(8)));
     let taken_back = late_message_and(rt.alloc(), Step::RollBack(2))?;
-    assert_eq!(rt; handled, Some(Ended::Illegal(8)));
-    assert_eq!(rt; taken_back, Some(Ended::Illegal(8)));
+    assert!(rt; matches!(taken_back, Ended::Illegal(8)));
     Ok(())
 }
 
 #[test]
-fn the_laws_hold_of_flooding_routers(rt: HostRuntime) -> Result<(), Fail> {
+fn the_laws_hold_of_flooding_routers() {
     laws::whole_journals::<Flood>();
     laws::taken_steps::<Flood>();
     laws::schedules_are_taken::<Flood>();
     laws::only_a_commit_cuts::<Flood>();
-    Ok(())
 }

@@ -3,7 +3,6 @@
 use dn_ckpt::Shelf;
 use dn_guest::{Flood, NoMemory, Node};
 use std::alloc::Global;
-use std::test::Fail;
 
 /// A node that has sent so many messages.
 fn node(alloc: Global, sends: u64) -> Node<Flood> {
@@ -14,13 +13,13 @@ fn node(alloc: Global, sends: u64) -> Node<Flood> {
     }
 }
 
-/// The place of the base for this one, and what its node has sent: None before the least kept place.
-fn base(shelf: &Shelf<Flood>, place: u64) -> Option<(u64, u64)> {
+/// Whether the base for the place is the one at this place, whose node has sent so many messages.
+fn is_base(shelf: &Shelf<Flood>, place: u64, at: u64, sends: u64) -> bool {
     if place < shelf.least_place() {
-        return None;
+        return false;
     }
-    let (at, node) = shelf.base_for(place);
-    Some((at, node.sends))
+    let (found, node) = shelf.base_for(place);
+    found == at && node.sends == sends
 }
 
 /// Cuts the shelf, unless the place is before the least kept place.
@@ -48,38 +47,38 @@ fn four(alloc: Global) -> Result<Shelf<Flood>, NoMemory> {
 }
 
 #[test]
-fn the_base_is_the_greatest_place_that_is_not_past(rt: HostRuntime) -> Result<(), Fail> {
+fn the_base_is_the_greatest_place_that_is_not_past(rt: HostRuntime) -> Result<(), NoMemory> {
     let shelf = four(rt.alloc())?;
-    assert_eq!(rt; base(&shelf, 0), Some((0, 10)));
-    assert_eq!(rt; base(&shelf, 1), Some((0, 10)));
-    assert_eq!(rt; base(&shelf, 2), Some((2, 12)));
-    assert_eq!(rt; base(&shelf, 3), Some((3, 13)));
-    assert_eq!(rt; base(&shelf, 6), Some((3, 13)));
-    assert_eq!(rt; base(&shelf, 7), Some((7, 17)));
-    assert_eq!(rt; base(&shelf, 18_446_744_073_709_551_615), Some((7, 17)));
+    assert!(rt; is_base(&shelf, 0, 0, 10));
+    assert!(rt; is_base(&shelf, 1, 0, 10));
+    assert!(rt; is_base(&shelf, 2, 2, 12));
+    assert!(rt; is_base(&shelf, 3, 3, 13));
+    assert!(rt; is_base(&shelf, 6, 3, 13));
+    assert!(rt; is_base(&shelf, 7, 7, 17));
+    assert!(rt; is_base(&shelf, 18_446_744_073_709_551_615, 7, 17));
     Ok(())
 }
 
 #[test]
-fn a_cut_drops_what_is_past_the_place(rt: HostRuntime) -> Result<(), Fail> {
+fn a_cut_drops_what_is_past_the_place(rt: HostRuntime) -> Result<(), NoMemory> {
     let mut shelf = four(rt.alloc())?;
     cut(&mut shelf, 6);
-    assert_eq!(rt; base(&shelf, 9), Some((3, 13)));
+    assert!(rt; is_base(&shelf, 9, 3, 13));
     cut(&mut shelf, 3);
-    assert_eq!(rt; base(&shelf, 9), Some((3, 13)));
+    assert!(rt; is_base(&shelf, 9, 3, 13));
     cut(&mut shelf, 1);
-    assert_eq!(rt; base(&shelf, 9), Some((0, 10)));
+    assert!(rt; is_base(&shelf, 9, 0, 10));
     Ok(())
 }
 
 #[test]
-fn trimming_keeps_the_base(rt: HostRuntime) -> Result<(), Fail> {
+fn trimming_keeps_the_base(rt: HostRuntime) -> Result<(), NoMemory> {
     let mut shelf = four(rt.alloc())?;
     trim(&mut shelf, 6);
-    assert_eq!(rt; base(&shelf, 2), None);
-    assert_eq!(rt; base(&shelf, 3), Some((3, 13)));
-    assert_eq!(rt; base(&shelf, 9), Some((7, 17)));
+    assert!(rt; 2 < shelf.least_place());
+    assert!(rt; is_base(&shelf, 3, 3, 13));
+    assert!(rt; is_base(&shelf, 9, 7, 17));
     trim(&mut shelf, 3);
-    assert_eq!(rt; base(&shelf, 3), Some((3, 13)));
+    assert!(rt; is_base(&shelf, 3, 3, 13));
     Ok(())
 }

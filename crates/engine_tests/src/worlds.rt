@@ -2,10 +2,9 @@
 
 use dn_guest::Flood;
 use dn_world::laws;
-use std::test::Fail;
 
 #[test]
-fn the_laws_hold_of_flooding_routers(rt: HostRuntime) -> Result<(), Fail> {
+fn the_laws_hold_of_flooding_routers() {
     laws::playable_cases::<Flood>();
     laws::equation::<Flood>();
     laws::boundary::<Flood>();
@@ -13,15 +12,13 @@ fn the_laws_hold_of_flooding_routers(rt: HostRuntime) -> Result<(), Fail> {
     laws::unsent::<Flood>();
     laws::quiet::<Flood>();
     laws::growth::<Flood>();
-    Ok(())
 }
 
 #[test]
-fn the_laws_for_code_hold_of_flooding_routers(rt: HostRuntime) -> Result<(), Fail> {
+fn the_laws_for_code_hold_of_flooding_routers() {
     laws::tidy_parts::<Flood>();
     laws::horizon::<Flood>();
     laws::replays::<Flood>();
     laws::runs::<Flood>();
     laws::fed_runs::<Flood>();
-    Ok(())
 }

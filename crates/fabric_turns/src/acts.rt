@@ -3,47 +3,30 @@
 ghost use Rattle.std.specs.Prelude.{◌≡◌, length, nat_lt, IfOk};
 ghost use Rattle.dn_world.specs.Steps.{is_injectable};
 
+use crate::shown::push_number;
 use dn_fabric::{Fabric, Finished, Moved, Work};
-use dn_guest::{Flood, Input, NoMemory};
+use dn_guest::{Bytes, Flood, Input, NoMemory};
 use dn_journal::Step;
 use dn_model::{External, Header, ends};
 use dn_router::{Order, Outcome};
 use std::alloc::Global;
 
-/// What came of a call.
-#[derive(Clone, Copy, Debug)]
-pub(crate) enum Done {
-    /// The call asks for something that doesn't hold.
-    NotNow,
-    /// It was done.
-    Done,
-    /// What Commit answered.
-    Committed(Moved),
-    /// What Finish answered.
-    Finished(Finished),
-    /// How many events led to the base of the order that was given out.
-    Order(u64),
-}
-
-/// Takes the step, if it may be taken.
+/// Takes the step if it may be taken, and tells what Commit answered. Whether it could be taken.
 pub(crate) fn take(
     alloc: Global,
     fabric: &mut Fabric<Flood>,
     step: Step,
-) -> Result<Done, NoMemory> {
-    if fabric.stopped() {
-        return Ok(Done::NotNow);
+    out: &mut Bytes,
+) -> Result<bool, NoMemory> {
+    match step {
+        Step::Beacon => beacon(fabric),
+        Step::Inject(coming) => inject(alloc, fabric, coming),
+        Step::Close => close(fabric),
+        Step::Deliver(place) => deliver(fabric, place),
+        Step::Handle(router) => handle(fabric, router),
+        Step::RollBack(router) => roll_back(fabric, router),
+        Step::Commit => commit(fabric, out),
     }
-    let done = match step {
-        Step::Beacon => beacon(fabric)?,
-        Step::Inject(coming) => inject(alloc, fabric, coming)?,
-        Step::Close => close(fabric)?,
-        Step::Deliver(place) => deliver(fabric, place)?,
-        Step::Handle(router) => handle(fabric, router)?,
-        Step::RollBack(router) => roll_back(fabric, router)?,
-        Step::Commit => return commit(fabric),
-    };
-    Ok(if done { Done::Done } else { Done::NotNow })
 }
 
 /// Whether there is a router of this number.
@@ -120,12 +103,19 @@ fn roll_back(fabric: &mut Fabric<Flood>, router: u16) -> Result<bool, NoMemory> 
     Ok(true)
 }
 
-/// Commits what is below the horizon.
-fn commit(fabric: &mut Fabric<Flood>) -> Result<Done, NoMemory> {
+/// Commits what is below the horizon, and tells how many rows there are more, or that the rows are cut.
+fn commit(fabric: &mut Fabric<Flood>, out: &mut Bytes) -> Result<bool, NoMemory> {
     if fabric.stopped() {
-        return Ok(Done::NotNow);
+        return Ok(false);
     }
-    Ok(Done::Committed(fabric.commit()?))
+    match fabric.commit()? {
+        Moved::Moved(count) => {
+            push_number(out, b"moved ", count)?;
+            out.append(b"; ")?;
+        }
+        Moved::Cut => out.append(b"cut; ")?,
+    }
+    Ok(true)
 }
 
 /// The order of a router that is ready and not leased.
@@ -175,14 +165,15 @@ fn next_step(fabric: &Fabric<Flood>) -> Option<Step> {
 }
 
 /// Does the next work until there is none, at most 1,000 times. Whether each could be done, and none is left.
-pub(crate) fn work(alloc: Global, fabric: &mut Fabric<Flood>) -> Result<Done, NoMemory> {
+pub(crate) fn work(alloc: Global, fabric: &mut Fabric<Flood>) -> Result<bool, NoMemory> {
+    let mut untold = Bytes::new(alloc);
     for _turn in 0..1000 {
         let Some(next) = next_step(fabric) else {
-            return Ok(Done::Done);
+            return Ok(true);
         };
-        if matches!(take(alloc, fabric, next)?, Done::NotNow) {
-            return Ok(Done::NotNow);
+        if !take(alloc, fabric, next, &mut untold)? {
+            return Ok(false);
         }
     }
-    Ok(Done::NotNow)
+    Ok(false)
 }

@@ -3,13 +3,14 @@
 ghost use Rattle.std.specs.Prelude.{◌≡◌, length, IfOk};
 ghost use Rattle.dn_drive.specs.Driving.{IsOpening};
 
-use crate::acts::{Done, finish, lease, take, work};
+use crate::acts::{finish, lease, take, work};
 use crate::shown::{
-    push_accepted, push_ended, push_header, push_rows, push_state, push_steps, push_turn,
+    push_accepted, push_ended, push_header, push_number, push_rows, push_state, push_steps,
+    push_turn,
 };
-use crate::words::Word;
+use crate::words::{Act, Ask, Word, steps_of, word_of};
 use dn_drive::{Ended, replay, shake};
-use dn_fabric::Fabric;
+use dn_fabric::{Fabric, Finished};
 use dn_guest::{Bytes, Flood, NoMemory};
 use dn_journal::Step;
 use dn_model::Case;
@@ -19,7 +20,7 @@ use std::alloc::Global;
 /// A run of a case.
 #[derive(Drop)]
 pub(crate) struct Run {
-    pub(crate) case: Case,
+    case: Case,
     fabric: Fabric<Flood>,
     /// The outcomes of orders that were given out, the first one first.
     aside: Vec<Outcome<Flood>>,
@@ -83,22 +84,18 @@ impl Run {
     }
 
     /// Tells how the fabric is.
-    pub(crate) fn push(&self, done: Done, out: &mut Bytes) -> Result<(), NoMemory> {
-        push_turn(&self.fabric, done, out)
+    pub(crate) fn push(&self, out: &mut Bytes) -> Result<(), NoMemory> {
+        out.append(b"= ")?;
+        push_turn(&self.fabric, out)
     }
 
     /// Replays the steps in the case from its begin, and tells what they came to.
-    pub(crate) fn replay(
-        &mut self,
-        alloc: Global,
-        steps: &[Step],
-        out: &mut Bytes,
-    ) -> Result<(), NoMemory> {
+    fn replay(&mut self, alloc: Global, steps: &[Step], out: &mut Bytes) -> Result<(), NoMemory> {
         let (fabric, ended) = replayed(alloc, &self.case, steps)?;
         self.fabric = fabric;
         self.aside = Vec::new(alloc);
         push_ended(b"= ", ended, out)?;
-        self.push(Done::Done, out)
+        self.push(out)
     }
 
     /// Takes so many turns of the number's schedule from the begin of the case, and replays the journal. Tells
@@ -111,75 +108,136 @@ impl Run {
         out: &mut Bytes,
     ) -> Result<(), NoMemory> {
         let (fabric, ended) = shaken(alloc, &self.case, number, turns)?;
-        let (again, ended_again) = replayed(alloc, &self.case, fabric.journal())?;
-        push_ended(b"= ", ended, out)?;
-        push_ended(b"= again ", ended_again, out)?;
-        if again.rows_from(0) != fabric.rows_from(0) {
-            out.append(b"= other rows\n")?;
-        }
         self.fabric = fabric;
         self.aside = Vec::new(alloc);
-        Ok(())
+        push_ended(b"= ", ended, out)?;
+        self.push_again(alloc, out)
     }
 
-    /// Gives the router's order out, computes it, and sets the outcome aside.
-    fn lease(&mut self, router: u16) -> Result<Done, NoMemory> {
+    /// Replays the journal beside the fabric, and tells what it came to, and whether both have the same rows.
+    fn push_again(&self, alloc: Global, out: &mut Bytes) -> Result<(), NoMemory> {
+        let (again, ended) = replayed(alloc, &self.case, self.fabric.journal())?;
+        push_ended(b"= again ", ended, out)?;
+        if again.rows_from(0) == self.fabric.rows_from(0) {
+            return Ok(());
+        }
+        out.append(b"= other rows\n")
+    }
+
+    /// Gives the router's order out, computes it, and sets the outcome aside. Tells how many events led to the
+    /// order's base.
+    fn lease(&mut self, router: u16, out: &mut Bytes) -> Result<bool, NoMemory> {
         let Some(order) = lease(&mut self.fabric, router)? else {
-            return Ok(Done::NotNow);
+            return Ok(false);
         };
-        let place = order.place();
+        push_number(out, b"order at ", order.place())?;
+        out.append(b"; ")?;
         self.aside.push(order.compute()?)?;
-        Ok(Done::Order(place))
+        Ok(true)
     }
 
-    /// The place of the outcome that was set aside first for the router.
-    fn set_aside(&self, router: u16) -> Option<usize> {
-        for (place, outcome) in self.aside.iter().enumerate() {
-            if outcome.router() == router {
-                return Some(place);
+    /// The place of the outcome that was set aside first for the router; past all where there is none.
+    fn set_aside(&self, router: u16) -> usize {
+        for place in 0..self.aside.len() {
+            if self.aside[place].router() == router {
+                return place;
             }
         }
-        None
+        self.aside.len()
     }
 
-    /// Brings the outcome back that was set aside first for the router.
-    fn finish(&mut self, router: u16) -> Result<Done, NoMemory> {
-        let Some(place) = self.set_aside(router) else {
-            return Ok(Done::NotNow);
-        };
+    /// Brings the outcome back that was set aside first for the router, and tells what became of it.
+    fn finish(&mut self, router: u16, out: &mut Bytes) -> Result<bool, NoMemory> {
+        let place = self.set_aside(router);
         if place >= self.aside.len() {
-            return Ok(Done::NotNow);
+            return Ok(false);
         }
         let outcome = self.aside.remove(place);
         match finish(&mut self.fabric, outcome)? {
-            Some(finished) => Ok(Done::Finished(finished)),
-            None => Ok(Done::NotNow),
+            Some(Finished::Applied) => out.append(b"applied; ")?,
+            Some(Finished::Stale) => out.append(b"stale; ")?,
+            None => return Ok(false),
+        }
+        Ok(true)
+    }
+
+    /// Does what is said if it may be done, and tells what was answered. Whether it could be done.
+    fn act(&mut self, alloc: Global, act: Act, out: &mut Bytes) -> Result<bool, NoMemory> {
+        match act {
+            Act::Take(step) => take(alloc, &mut self.fabric, step, out),
+            Act::Lease(router) => self.lease(router, out),
+            Act::Finish(router) => self.finish(router, out),
+            Act::Work => work(alloc, &mut self.fabric),
+            Act::Stop => {
+                self.fabric.stop();
+                Ok(true)
+            }
         }
     }
 
-    /// Does what the word says, and tells what came of it.
+    /// Does what is said, and tells how the fabric is then.
+    fn turn(&mut self, alloc: Global, act: Act, out: &mut Bytes) -> Result<(), NoMemory> {
+        out.append(b"= ")?;
+        if !self.act(alloc, act, out)? {
+            out.append(b"not now; ")?;
+        }
+        push_turn(&self.fabric, out)
+    }
+
+    /// Tells what is asked for.
+    fn tell(&mut self, alloc: Global, ask: Ask, out: &mut Bytes) -> Result<(), NoMemory> {
+        match ask {
+            Ask::Shake(number, turns) => self.shake(alloc, number, turns, out),
+            Ask::State(router) => push_state(alloc, &self.fabric, router, out),
+            Ask::Rows => push_rows(&self.fabric, out),
+            Ask::Steps => push_steps(&self.fabric, out),
+            Ask::Header => push_header(&self.fabric, out),
+            Ask::Accepted => push_accepted(&self.fabric, out),
+        }
+    }
+
+    /// Replays the journal, if the text is one. Whether it could be read.
+    fn follow_journal(
+        &mut self,
+        alloc: Global,
+        text: &[u8],
+        out: &mut Bytes,
+    ) -> Result<bool, NoMemory> {
+        match steps_of(alloc, &self.case.header, text) {
+            Some(steps) => {
+                self.replay(alloc, steps.as_slice(), out)?;
+                Ok(true)
+            }
+            None => Ok(false),
+        }
+    }
+
+    /// Does what the line says. Whether it could be read.
+    fn follow_line(
+        &mut self,
+        alloc: Global,
+        line: &[u8],
+        out: &mut Bytes,
+    ) -> Result<bool, NoMemory> {
+        match word_of(alloc, &self.case.header, line)? {
+            Some(Word::Act(act)) => self.turn(alloc, act, out)?,
+            Some(Word::Ask(ask)) => self.tell(alloc, ask, out)?,
+            None => return Ok(false),
+        }
+        Ok(true)
+    }
+
+    /// Replays the journal, or does what the line says. Whether the text could be read.
     pub(crate) fn follow(
         &mut self,
         alloc: Global,
-        word: Word,
+        text: &[u8],
         out: &mut Bytes,
-    ) -> Result<(), NoMemory> {
-        let done = match word {
-            Word::Take(step) => take(alloc, &mut self.fabric, step)?,
-            Word::Lease(router) => self.lease(router)?,
-            Word::Finish(router) => self.finish(router)?,
-            Word::Work => work(alloc, &mut self.fabric)?,
-            Word::Stop => {
-                self.fabric.stop();
-                Done::Done
-            }
-            Word::Shake(number, turns) => return self.shake(alloc, number, turns, out),
-            Word::State(router) => return push_state(alloc, &self.fabric, router, out),
-            Word::Rows => return push_rows(&self.fabric, out),
-            Word::Steps => return push_steps(&self.fabric, out),
-            Word::Header => return push_header(&self.fabric, out),
-            Word::Accepted => return push_accepted(&self.fabric, out),
-        };
-        self.push(done, out)
+    ) -> Result<bool, NoMemory> {
+        if text.starts_with(b"journal\n") {
+            self.follow_journal(alloc, text, out)
+        } else {
+            self.follow_line(alloc, text, out)
+        }
     }
 }

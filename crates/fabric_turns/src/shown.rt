@@ -2,17 +2,17 @@
 
 ghost use Rattle.std.specs.Prelude.{◌<◌, length};
 
-use crate::acts::{Done, is_router};
+use crate::acts::is_router;
 use dn_drive::Ended;
-use dn_fabric::{Fabric, Finished, Moved, Work};
+use dn_fabric::{Fabric, Work};
 use dn_guest::{Bytes, Flood, Guest, NoMemory};
 use dn_journal::Step;
 use dn_model::Key;
-use dn_text::{Piece, append_all, push_decimal, push_hex};
+use dn_text::{push_decimal, push_hex};
 use std::alloc::Global;
 
 /// The three things that are told of all routers together.
-#[derive(Clone, Copy, Debug)]
+#[derive(Clone, Copy)]
 enum Field {
     Behind,
     Ready,
@@ -20,7 +20,7 @@ enum Field {
 }
 
 /// A word and a number.
-fn push_number(out: &mut Bytes, word: &[u8], number: u64) -> Result<(), NoMemory> {
+pub(crate) fn push_number(out: &mut Bytes, word: &[u8], number: u64) -> Result<(), NoMemory> {
     out.append(word)?;
     push_decimal(out, number)
 }
@@ -51,25 +51,6 @@ fn push_key(word: &[u8], key: &Key, out: &mut Bytes) -> Result<(), NoMemory> {
     push_number(out, b" ", key.tie)?;
     push_number(out, b" ", u64::from(key.origin))?;
     push_number(out, b" ", key.seq)
-}
-
-/// What the call answered.
-fn push_done(done: Done, out: &mut Bytes) -> Result<(), NoMemory> {
-    match done {
-        Done::NotNow => out.append(b"not now; "),
-        Done::Done => Ok(()),
-        Done::Committed(Moved::Moved(count)) => {
-            push_number(out, b"moved ", count)?;
-            out.append(b"; ")
-        }
-        Done::Committed(Moved::Cut) => out.append(b"cut; "),
-        Done::Finished(Finished::Applied) => out.append(b"applied; "),
-        Done::Finished(Finished::Stale) => out.append(b"stale; "),
-        Done::Order(place) => {
-            push_number(out, b"order at ", place)?;
-            out.append(b"; ")
-        }
-    }
 }
 
 /// What the steps of a drive came to.
@@ -138,21 +119,21 @@ fn push_work(fabric: &Fabric<Flood>, out: &mut Bytes) -> Result<(), NoMemory> {
     }
 }
 
-/// What the call answered, and how the fabric is then.
-pub(crate) fn push_turn(
-    fabric: &Fabric<Flood>,
-    done: Done,
-    out: &mut Bytes,
-) -> Result<(), NoMemory> {
-    out.append(b"= ")?;
-    push_done(done, out)?;
+/// How many steps the journal has, how many packets fly, which routers are behind, ready and leased, the floor, and
+/// how many messages each router has sent.
+fn push_routers_and_flight(fabric: &Fabric<Flood>, out: &mut Bytes) -> Result<(), NoMemory> {
     push_number(out, b"steps ", fabric.journal().len() as u64)?;
     push_number(out, b"; flying ", fabric.flying())?;
     push_routers(fabric, b"; behind", Field::Behind, out)?;
     push_routers(fabric, b"; ready", Field::Ready, out)?;
     push_routers(fabric, b"; leased", Field::Leased, out)?;
     push_number(out, b"; floor ", u64::from(fabric.floor()))?;
-    push_sends(fabric, out)?;
+    push_sends(fabric, out)
+}
+
+/// How the fabric is.
+pub(crate) fn push_turn(fabric: &Fabric<Flood>, out: &mut Bytes) -> Result<(), NoMemory> {
+    push_routers_and_flight(fabric, out)?;
     push_key(b"; horizon ", &fabric.horizon(), out)?;
     push_key(b"; boundary ", &fabric.boundary(), out)?;
     push_number(out, b"; rows ", fabric.rows_from(0).len() as u64)?;
@@ -217,18 +198,10 @@ pub(crate) fn push_steps(fabric: &Fabric<Flood>, out: &mut Bytes) -> Result<(), 
 /// Period, groups and the number of routers.
 pub(crate) fn push_header(fabric: &Fabric<Flood>, out: &mut Bytes) -> Result<(), NoMemory> {
     let header = fabric.header();
-    append_all(
-        out,
-        &[
-            Piece::Text(b"= period "),
-            Piece::Decimal(u64::from(header.period)),
-            Piece::Text(b"; groups "),
-            Piece::Decimal(u64::from(header.groups)),
-            Piece::Text(b"; routers "),
-            Piece::Decimal(header.routers.as_slice().len() as u64),
-            Piece::Text(b"\n"),
-        ],
-    )
+    push_number(out, b"= period ", u64::from(header.period))?;
+    push_number(out, b"; groups ", u64::from(header.groups))?;
+    push_number(out, b"; routers ", header.routers.as_slice().len() as u64)?;
+    out.push(b'\n')
 }
 
 /// Group and router of each accepted external.

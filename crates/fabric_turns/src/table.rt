@@ -1,170 +1,98 @@
 //! The lines of a table, one after another.
 
-ghost use Rattle.std.specs.Prelude.{◌<◌, ◌≤◌, length, IfOk};
-
-use crate::acts::Done;
 use crate::runs::Run;
-use crate::words::word_of;
-use dn_case::{CaseError, read_case};
-use dn_guest::Bytes;
-use dn_journal::read_journal;
+use dn_case::read_case;
+use dn_guest::{Bytes, NoMemory};
+use dn_model::Case;
 use dn_text::first_line;
-use std::alloc::{AllocError, Global};
-
-/// Why a table isn't written again.
-#[derive(Debug, Drop)]
-pub(crate) enum Fault {
-    /// The line of this number, from 1, can't be read.
-    Line(u64),
-    /// There was no memory.
-    NoMemory,
-}
-
-impl From<AllocError> for Fault {
-    fn from(_error: AllocError) -> Fault {
-        Fault::NoMemory
-    }
-}
+use std::alloc::Global;
+use std::mem;
 
 /// A table up to a line.
 #[derive(Drop)]
 struct Table {
-    alloc: Global,
-    /// What was written so far.
-    out: Bytes,
-    /// How many lines were read.
-    lines: u64,
+    /// The lines of a case or a journal that isn't at its end.
+    block: Bytes,
     /// The run that began last.
     run: Option<Run>,
 }
 
-/// The table, with what comes of its lines.
-pub(crate) fn written_again(alloc: Global, text: &[u8]) -> Result<Bytes, Fault> {
+/// Writes the table again, with what comes of its lines, up to the first one that can't be read. Whether all
+/// could be.
+pub(crate) fn write_again(alloc: Global, text: &[u8], out: &mut Bytes) -> Result<bool, NoMemory> {
     let mut table = Table {
-        alloc,
-        out: Bytes::new(alloc),
-        lines: 0,
+        block: Bytes::new(alloc),
         run: None,
     };
-    let mut left = text;
-    'blocks: while !left.is_empty() {
-        left = table.take_block(left)?;
-    }
-    Ok(table.out)
-}
-
-/// How many lines a text has.
-fn count_lines(text: &[u8]) -> u64 {
-    let mut count: u64 = 0;
-    for byte in text {
-        if *byte == b'\n' {
-            count = count.saturating_add(1);
+    let mut rest = text;
+    'lines: while !rest.is_empty() {
+        let (line, behind) = first_line(rest);
+        rest = behind;
+        if !line.starts_with(b"=") {
+            out.append(line)?;
+            if !table.take_line(alloc, line, out)? {
+                return Ok(false);
+            }
         }
     }
-    count
+    Ok(table.block.is_empty())
 }
 
-/// How many bytes a journal has at the front of the text, up to the end of its last line; all of them where it
-/// has no last line.
-fn journal_size(text: &[u8]) -> usize
-    ensures { result ≤ length text.now }
-{
-    let mut left = text;
-    'lines: while !left.is_empty() {
-        let (line, behind) = first_line(left);
-        left = behind;
-        if line.starts_with(b"end journal ") {
-            return text.len().saturating_sub(left.len());
-        }
+/// Whether the block, which ends with the line, is at its end: a case, a journal, or a line that is neither.
+fn is_whole(block: &[u8], line: &[u8]) -> bool {
+    if block.starts_with(b"defined ") {
+        line == b"end\n".as_slice()
+    } else if block.starts_with(b"journal\n") {
+        line.starts_with(b"end journal ")
+    } else {
+        true
     }
-    text.len()
+}
+
+/// The case of a text; None where it can't be read.
+fn case_of(alloc: Global, text: &[u8]) -> Option<Case> {
+    match read_case(alloc, text) {
+        Ok((case, _size)) => Some(case),
+        Err(_) => None,
+    }
 }
 
 impl Table {
-    /// Takes a line at the front of the text, or a case, or a journal; what stands behind it.
-    fn take_block<'a>(&mut self, text: &'a [u8]) -> Result<&'a [u8], Fault>
-        requires { 0 < length text.now }
-        ensures { IfOk result (λ rest. length rest.now < length text.now) }
-    {
-        let (line, _) = first_line(text);
-        let size = if line.starts_with(b"defined ") {
-            self.take_case(text)?
-        } else if line == b"journal\n".as_slice() {
-            self.take_journal(text)?
-        } else {
-            self.take_line(line)?;
-            line.len()
-        };
-        if size == 0 || size > text.len() {
-            return Err(self.bad(0));
-        }
-        self.lines = self.lines.saturating_add(count_lines(&text[..size]));
-        Ok(&text[size..])
-    }
-
-    /// The line behind this many more can't be read.
-    fn bad(&self, more: u64) -> Fault {
-        Fault::Line(self.lines.saturating_add(more).saturating_add(1))
-    }
-
-    /// What is wrong with a case or a journal.
-    fn fault_of(&self, error: CaseError) -> Fault {
-        match error {
-            CaseError::Fault(fault) => self.bad(fault.line.saturating_sub(1)),
-            CaseError::NoMemory => Fault::NoMemory,
-        }
-    }
-
-    /// A run of the case at the front of the text begins; how many bytes the case has.
-    fn take_case(&mut self, text: &[u8]) -> Result<usize, Fault> {
-        let (case, size) = match read_case(self.alloc, text) {
-            Ok(found) => found,
-            Err(error) => return Err(self.fault_of(error)),
-        };
-        let size = size as usize;
-        let run = Run::new(self.alloc, case)?;
-        if size <= text.len() {
-            self.out.append(&text[..size])?;
-        }
-        run.push(Done::Done, &mut self.out)?;
-        self.run = Some(run);
-        Ok(size)
-    }
-
-    /// The steps of the journal at the front of the text are replayed; how many bytes the journal has.
-    fn take_journal(&mut self, text: &[u8]) -> Result<usize, Fault> {
-        let size = journal_size(text);
-        let Some(mut run) = self.run.take() else {
-            return Err(self.bad(0));
-        };
-        let steps = match read_journal(self.alloc, &run.case.header, &text[..size]) {
-            Ok(steps) => steps,
-            Err(error) => return Err(self.fault_of(error)),
-        };
-        self.out.append(&text[..size])?;
-        run.replay(self.alloc, steps.as_slice(), &mut self.out)?;
-        self.run = Some(run);
-        Ok(size)
-    }
-
-    /// A line that stands alone.
-    fn take_line(&mut self, line: &[u8]) -> Result<(), Fault> {
-        if line.starts_with(b"=") {
-            return Ok(());
-        }
+    /// Takes a line. Whether it could be read.
+    fn take_line(&mut self, alloc: Global, line: &[u8], out: &mut Bytes) -> Result<bool, NoMemory> {
         if line.starts_with(b"#") || line == b"\n".as_slice() {
-            self.out.append(line)?;
-            return Ok(());
+            return Ok(true);
         }
-        let Some(mut run) = self.run.take() else {
-            return Err(self.bad(0));
+        self.block.append(line)?;
+        if !is_whole(self.block.as_slice(), line) {
+            return Ok(true);
+        }
+        let block = mem::replace(&mut self.block, Bytes::new(alloc));
+        if line == b"end\n".as_slice() {
+            self.begin(alloc, block.as_slice(), out)
+        } else {
+            self.follow(alloc, block.as_slice(), out)
+        }
+    }
+
+    /// A run of the case begins. Whether it could be read.
+    fn begin(&mut self, alloc: Global, text: &[u8], out: &mut Bytes) -> Result<bool, NoMemory> {
+        let Some(case) = case_of(alloc, text) else {
+            return Ok(false);
         };
-        let Some(word) = word_of(self.alloc, &run.case.header, line)? else {
-            return Err(self.bad(0));
-        };
-        self.out.append(line)?;
-        run.follow(self.alloc, word, &mut self.out)?;
+        let run = Run::new(alloc, case)?;
+        run.push(out)?;
         self.run = Some(run);
-        Ok(())
+        Ok(true)
+    }
+
+    /// The run does what the text says. Whether there is a run, and the text could be read.
+    fn follow(&mut self, alloc: Global, text: &[u8], out: &mut Bytes) -> Result<bool, NoMemory> {
+        let Some(mut run) = self.run.take() else {
+            return Ok(false);
+        };
+        let could = run.follow(alloc, text, out)?;
+        self.run = Some(run);
+        Ok(could)
     }
 }

@@ -1,15 +1,22 @@
 //! What a line says.
 
-use dn_case::{CaseError, KnownHeader};
+use dn_case::KnownHeader;
 use dn_guest::{Bytes, NoMemory};
 use dn_journal::{Step, read_journal};
 use dn_model::Header;
 use dn_text::{decimal, first_part};
-use std::alloc::{AllocError, Global};
+use std::alloc::Global;
 
-/// A line that stands behind a case.
+/// A line behind a case.
 #[derive(Drop)]
 pub(crate) enum Word {
+    Act(Act),
+    Ask(Ask),
+}
+
+/// What is done with the fabric.
+#[derive(Drop)]
+pub(crate) enum Act {
     /// A step of a journal.
     Take(Step),
     /// The router's order is given out and computed.
@@ -20,17 +27,22 @@ pub(crate) enum Word {
     Stop,
     /// The next work is done until there is none.
     Work,
-    /// So many turns of the number's schedule are taken.
+}
+
+/// What is told of the fabric.
+#[derive(Drop)]
+pub(crate) enum Ask {
+    /// What so many turns of the number's schedule come to.
     Shake(u64, u64),
-    /// The router's node is told.
+    /// The router's node.
     State(u16),
-    /// The committed rows are told.
+    /// The committed rows.
     Rows,
-    /// The steps of the journal are told.
+    /// The steps of the journal.
     Steps,
-    /// The header is told.
+    /// The header.
     Header,
-    /// The accepted externals are told.
+    /// The accepted externals.
     Accepted,
 }
 
@@ -51,7 +63,7 @@ pub(crate) fn word_of(
         return Ok(Some(word));
     }
     match step_of(alloc, header, line)? {
-        Some(step) => Ok(Some(Word::Take(step))),
+        Some(step) => Ok(Some(Word::Act(Act::Take(step)))),
         None => Ok(None),
     }
 }
@@ -59,17 +71,17 @@ pub(crate) fn word_of(
 /// A word that stands alone, and `shake` with its numbers.
 fn plain_word(text: &[u8]) -> Option<Word> {
     if text == b"stop".as_slice() {
-        Some(Word::Stop)
+        Some(Word::Act(Act::Stop))
     } else if text == b"work".as_slice() {
-        Some(Word::Work)
+        Some(Word::Act(Act::Work))
     } else if text == b"rows".as_slice() {
-        Some(Word::Rows)
+        Some(Word::Ask(Ask::Rows))
     } else if text == b"steps".as_slice() {
-        Some(Word::Steps)
+        Some(Word::Ask(Ask::Steps))
     } else if text == b"header".as_slice() {
-        Some(Word::Header)
+        Some(Word::Ask(Ask::Header))
     } else if text == b"accepted".as_slice() {
-        Some(Word::Accepted)
+        Some(Word::Ask(Ask::Accepted))
     } else {
         shake_of(text.strip_prefix(b"shake ")?)
     }
@@ -78,7 +90,7 @@ fn plain_word(text: &[u8]) -> Option<Word> {
 /// The number of a schedule, and how many turns are taken.
 fn shake_of(text: &[u8]) -> Option<Word> {
     let (number, rest) = first_part(b' ', text);
-    Some(Word::Shake(decimal(number)?, decimal(rest?)?))
+    Some(Word::Ask(Ask::Shake(decimal(number)?, decimal(rest?)?)))
 }
 
 /// A word with a router's name.
@@ -86,14 +98,19 @@ fn named_word(known: &KnownHeader, text: &[u8]) -> Option<Word> {
     let (word, rest) = first_part(b' ', text);
     let router = known.number_of(rest?)?;
     if word == b"lease".as_slice() {
-        Some(Word::Lease(router))
+        Some(Word::Act(Act::Lease(router)))
     } else if word == b"finish".as_slice() {
-        Some(Word::Finish(router))
+        Some(Word::Act(Act::Finish(router)))
     } else if word == b"state".as_slice() {
-        Some(Word::State(router))
+        Some(Word::Ask(Ask::State(router)))
     } else {
         None
     }
+}
+
+/// The steps of a journal's text; None where it can't be read.
+pub(crate) fn steps_of(alloc: Global, header: &Header, text: &[u8]) -> Option<Vec<Step>> {
+    read_journal(alloc, header, text).ok()
 }
 
 /// The step of a line with its newline: that of a journal of this one line.
@@ -101,9 +118,8 @@ fn step_of(alloc: Global, header: &Header, line: &[u8]) -> Result<Option<Step>, 
     let mut text = Bytes::from_slice(alloc, b"journal\n")?;
     text.append(line)?;
     text.append(b"end journal 1\n")?;
-    match read_journal(alloc, header, text.as_slice()) {
-        Ok(mut steps) => Ok(steps.pop()),
-        Err(CaseError::Fault(_)) => Ok(None),
-        Err(CaseError::NoMemory) => Err(AllocError),
+    match steps_of(alloc, header, text.as_slice()) {
+        Some(mut steps) => Ok(steps.pop()),
+        None => Ok(None),
     }
 }

@@ -1,55 +1,41 @@
 //! The steps of a journal, read and written.
 
-use dn_case::read_case;
-use dn_guest::{Bytes, Input};
+use crate::cases::case_of;
+use dn_guest::{Bytes, Input, NoMemory};
 use dn_journal::{Step, laws, read_journal, write_journal};
-use dn_model::Header;
-use std::alloc::Global;
-use std::test::Fail;
+use dn_model::{External, Header};
+use std::alloc::{AllocError, Global};
 
 /// Two routers with a link, and two groups.
-const PAIR: &str =
-    "defined 1\nperiod 100\ngroups 2\nseed 0\nrouter a flood\nrouter bb flood\nlink a bb 10 1\nfeed\nend\n";
-
-/// The header of the two routers.
-fn header_of_two(alloc: Global) -> Result<Header, Fail> {
-    let (case, _) = read_case(alloc, PAIR.as_bytes())
-        .ok()
-        .ok_or("it is a case")?;
-    Ok(case.header)
-}
+const PAIR: &[u8] =
+    b"defined 1\nperiod 100\ngroups 2\nseed 0\nrouter a flood\nrouter bb flood\nlink a bb 10 1\nfeed\nend\n";
 
 /// The steps of a text.
-fn steps_of(alloc: Global, text: &[u8]) -> Result<Vec<Step>, Fail> {
-    let header = header_of_two(alloc)?;
-    Ok(
-        read_journal(alloc, &header, text)
-            .ok()
-            .ok_or("it is a journal")?,
-    )
+fn steps_of(alloc: Global, header: &Header, text: &[u8]) -> Result<Vec<Step>, NoMemory> {
+    match read_journal(alloc, header, text) {
+        Ok(steps) => Ok(steps),
+        Err(_) => Err(AllocError),
+    }
 }
 
-/// The text of the journal that is read of a text.
-fn again(alloc: Global, text: &str) -> Result<Bytes, Fail> {
-    let header = header_of_two(alloc)?;
-    let mut out = Bytes::new(alloc);
-    if let Ok(steps) = read_journal(alloc, &header, text.as_bytes()) {
-        write_journal(&header, steps.as_slice(), &mut out)?;
-    }
+/// The text of the journal that is read of a text, behind a line.
+fn again(alloc: Global, text: &[u8]) -> Result<Bytes, NoMemory> {
+    let case = case_of(alloc, PAIR)?;
+    let steps = steps_of(alloc, &case.header, text)?;
+    let mut out = Bytes::from_slice(alloc, b"before\n")?;
+    write_journal(&case.header, steps.as_slice(), &mut out)?;
     Ok(out)
 }
 
+/// Whether the journal that is read of a text is written again.
+fn is_again(alloc: Global, text: &[u8]) -> Result<bool, NoMemory> {
+    let out = again(alloc, text)?;
+    Ok(out.as_slice().strip_prefix(b"before\n") == Some(text))
+}
+
 #[test]
-fn no_step(rt: HostRuntime) -> Result<(), Fail> {
-    let header = header_of_two(rt.alloc())?;
-    let steps = steps_of(rt.alloc(), b"journal\nend journal 0\n")?;
-    assert_eq!(rt; steps.len(), 0);
-    let mut out = Bytes::from_slice(rt.alloc(), b"before\n")?;
-    write_journal(&header, &[], &mut out)?;
-    assert_eq!(rt;
-        out.as_slice(),
-        b"before\njournal\nend journal 0\n".as_slice()
-    );
+fn no_step(rt: HostRuntime) -> Result<(), NoMemory> {
+    assert!(rt; is_again(rt.alloc(), b"journal\nend journal 0\n")?);
     Ok(())
 }
 
@@ -70,59 +56,74 @@ rollback bb
 commit
 ";
 
+/// Whether a journal of this line alone is written again.
+fn line_is_again(alloc: Global, line: &[u8]) -> Result<bool, NoMemory> {
+    let mut text = Bytes::from_slice(alloc, b"journal\n")?;
+    text.append(line)?;
+    text.append(b"\nend journal 1\n")?;
+    is_again(alloc, text.as_slice())
+}
+
 #[test]
-fn each_line_both_ways(rt: HostRuntime) -> Result<(), Fail> {
+fn each_line_both_ways(rt: HostRuntime) -> Result<(), NoMemory> {
     for line in STEPS.lines() {
-        let text = format!(in rt.alloc(); "journal\n{line}\nend journal 1\n")?;
-        assert_eq!(rt;
-            again(rt.alloc(), text.as_str())?.as_slice(),
-            text.as_bytes(),
-            "at {line}"
-        );
+        assert!(rt; line_is_again(rt.alloc(), line.as_bytes())?);
     }
     Ok(())
 }
 
+/// Whether these are the six steps of the text below.
+fn are_six(steps: &[Step]) -> bool {
+    matches!(
+        steps,
+        [
+            Step::Beacon,
+            Step::Deliver(7),
+            Step::Handle(1),
+            Step::RollBack(0),
+            Step::Close,
+            Step::Commit
+        ]
+    )
+}
+
 #[test]
-fn what_the_lines_say(rt: HostRuntime) -> Result<(), Fail> {
+fn what_the_lines_say(rt: HostRuntime) -> Result<(), NoMemory> {
     let text = b"journal\nbeacon\ndeliver 7\nhandle bb\nrollback a\nclose\ncommit\nend journal 6\n";
-    let steps = steps_of(rt.alloc(), text)?;
-    assert!(rt;
-        matches!(
-            steps.as_slice(),
-            [
-                Step::Beacon,
-                Step::Deliver(7),
-                Step::Handle(1),
-                Step::RollBack(0),
-                Step::Close,
-                Step::Commit
-            ]
-        )
-    );
+    let case = case_of(rt.alloc(), PAIR)?;
+    let steps = steps_of(rt.alloc(), &case.header, text)?;
+    assert!(rt; are_six(steps.as_slice()));
     Ok(())
 }
 
+/// Whether it is the command `AB` at bb in group 1.
+fn is_command(external: &External) -> bool {
+    match &external.input {
+        Input::Cmd(body) => {
+            external.group == 1 && external.router == 1 && body.as_slice() == b"AB".as_slice()
+        }
+        _ => false,
+    }
+}
+
 #[test]
-fn what_is_injected(rt: HostRuntime) -> Result<(), Fail> {
+fn what_is_injected(rt: HostRuntime) -> Result<(), NoMemory> {
     let text = b"journal\ninject @1 bb cmd 4142\nend journal 1\n";
-    let steps = steps_of(rt.alloc(), text)?;
-    let Some(Step::Inject(external)) = steps.as_slice().first() else {
-        return Err(Fail::from("it injects"));
+    let case = case_of(rt.alloc(), PAIR)?;
+    let steps = steps_of(rt.alloc(), &case.header, text)?;
+    let injects = match steps.first() {
+        Some(Step::Inject(external)) => is_command(external),
+        _ => false,
     };
-    assert_eq!(rt; (external.group, external.router), (1, 1));
-    let Input::Cmd(body) = &external.input else {
-        return Err(Fail::from("it is a command"));
-    };
-    assert_eq!(rt; body.as_slice(), b"AB".as_slice());
+    assert!(rt; injects);
     Ok(())
 }
 
-/// Externals may stand in any order of their groups, since a journal isn't a feed.
+/// Externals may come in any order of their groups, since a journal isn't a feed.
 #[test]
-fn groups_may_fall(rt: HostRuntime) -> Result<(), Fail> {
-    let text = "journal\ninject @1 a cmd 41\ninject @0 a cmd 41\nend journal 2\n";
-    assert_eq!(rt; again(rt.alloc(), text)?.as_slice(), text.as_bytes());
+fn groups_may_fall(rt: HostRuntime) -> Result<(), NoMemory> {
+    let text = b"journal\ninject @1 a cmd 41\ninject @0 a cmd 41\nend journal 2\n";
+    assert!(rt; is_again(rt.alloc(), text)?);
     Ok(())
 }
 

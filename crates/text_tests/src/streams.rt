@@ -9,7 +9,6 @@ use dn_io::{
     Took, WriteFault, put_all, read_all,
 };
 use std::alloc::Global;
-use std::test::Fail;
 
 /// Why the pieces weren't all written.
 #[derive(Clone, Copy, Debug, PartialEq, Eq)]
@@ -50,142 +49,148 @@ fn write_pieces<K: Sink>(alloc: Global, sink: &mut K, pieces: &[Vec<u8>]) -> Res
     Ok(())
 }
 
+/// Whether a read of a source takes so many bytes, and the buffer begins so behind it.
+fn reads(source: &mut MemSource, into: &mut [u8; 3], took: Took, front: &[u8]) -> bool {
+    source.read(into) == took && into.starts_with(front)
+}
+
 #[test]
-fn a_source_fails_at_the_numbered_calls(rt: HostRuntime) -> Result<(), Fail> {
-    let bytes = Vec::from_array(rt.alloc(), [10, 11, 12, 13, 14])?;
-    let fails = Vec::from_array(rt.alloc(), [1, 4])?;
+fn a_source_fails_at_the_numbered_calls(rt: HostRuntime) -> Result<(), NoMemory> {
+    let bytes = Vec::from_slice(rt.alloc(), b"\x0a\x0b\x0c\x0d\x0e")?;
+    let fails = Vec::from_slice(rt.alloc(), &[1, 4])?;
     let mut source = MemSource::new(bytes, fails, 2);
     let mut into = [0; 3];
-    // the answer of each call, and the front of the buffer behind it
-    for (took, front) in [
-        (Took::Bytes(2), [10, 11]),
-        (Took::Failed, [10, 11]),
-        (Took::Bytes(2), [12, 13]),
-        (Took::Bytes(1), [14, 13]),
-        (Took::Failed, [14, 13]),
-        (Took::End, [14, 13]),
-    ] {
-        assert_eq!(rt; source.read(&mut into), took);
-        assert_eq!(rt; &into[..2], front.as_slice());
-    }
-    assert_eq!(rt; source.failed_calls(), 2);
-    assert!(rt; source.as_slice().is_empty());
+    assert!(rt; reads(&mut source, &mut into, Took::Bytes(2), b"\x0a\x0b"));
+    assert!(rt; reads(&mut source, &mut into, Took::Failed, b"\x0a\x0b"));
+    assert!(rt; reads(&mut source, &mut into, Took::Bytes(2), b"\x0c\x0d"));
+    assert!(rt; reads(&mut source, &mut into, Took::Bytes(1), b"\x0e\x0d"));
+    assert!(rt; reads(&mut source, &mut into, Took::Failed, b"\x0e\x0d"));
+    assert!(rt; reads(&mut source, &mut into, Took::End, b"\x0e\x0d"));
+    assert!(rt; source.failed_calls() == 2 && source.as_slice().is_empty());
     Ok(())
 }
 
 #[test]
-fn a_sink_takes_a_part_and_fails_where_it_is_full(rt: HostRuntime) -> Result<(), Fail> {
-    let fails = Vec::from_array(rt.alloc(), [1])?;
+fn a_sink_takes_a_part_and_fails_where_it_is_full(rt: HostRuntime) -> Result<(), NoMemory> {
+    let fails = Vec::from_slice(rt.alloc(), &[1])?;
     let mut sink = MemSink::new(rt.alloc(), fails, 2, 3)?;
-    for (piece, put) in [
-        (b"abc".as_slice(), Put::Bytes(2)),
-        (b"c", Put::Failed),
-        (b"", Put::Bytes(0)),
-        (b"cd", Put::Bytes(1)),
-        (b"", Put::Bytes(0)),
-        (b"d", Put::Failed),
-    ] {
-        assert_eq!(rt; sink.write(piece), put);
+    assert!(rt; sink.write(b"abc") == Put::Bytes(2));
+    assert!(rt; sink.write(b"c") == Put::Failed);
+    assert!(rt; sink.write(b"") == Put::Bytes(0));
+    assert!(rt; sink.write(b"cd") == Put::Bytes(1));
+    assert!(rt; sink.write(b"") == Put::Bytes(0));
+    assert!(rt; sink.write(b"d") == Put::Failed);
+    assert!(rt; sink.as_slice() == b"abc".as_slice() && sink.failed_calls() == 2);
+    Ok(())
+}
+
+/// What comes of reading `abcde` in pieces of two bytes up to a limit, when a call fails: None when all came.
+fn read_five(alloc: Global, limit: u64, fails_at: u64) -> Result<Option<ReadError>, NoMemory> {
+    let bytes = Vec::from_slice(alloc, b"abcde")?;
+    let fails = Vec::from_slice(alloc, &[fails_at])?;
+    let mut source = MemSource::new(bytes, fails, 2);
+    match read_all(alloc, &mut source, limit) {
+        Ok(all) => Ok(if all.as_slice() == b"abcde".as_slice() {
+            None
+        } else {
+            Some(ReadError::NoMemory)
+        }),
+        Err(error) => Ok(Some(error)),
     }
-    assert_eq!(rt; sink.as_slice(), b"abc".as_slice());
-    assert_eq!(rt; sink.failed_calls(), 2);
+}
+
+#[test]
+fn reading_to_the_end_within_a_limit(rt: HostRuntime) -> Result<(), NoMemory> {
+    assert!(rt; read_five(rt.alloc(), 5, 9)?.is_none());
+    assert!(rt; read_five(rt.alloc(), 4, 9)? == Some(ReadError::TooBig));
+    assert!(rt; read_five(rt.alloc(), 4, 2)? == Some(ReadError::Fault));
+    assert!(rt; read_five(rt.alloc(), 5, 3)? == Some(ReadError::Fault));
     Ok(())
 }
 
 #[test]
-fn reading_to_the_end_within_a_limit(rt: HostRuntime) -> Result<(), Fail> {
-    // the limit, the call that fails, the error
-    for (limit, fails_at, error) in [
-        (5, 9, None),
-        (4, 9, Some(ReadError::TooBig)),
-        (4, 2, Some(ReadError::Fault)),
-        (5, 3, Some(ReadError::Fault)),
-    ] {
-        let bytes = Vec::from_array(rt.alloc(), *b"abcde")?;
-        let fails = Vec::from_array(rt.alloc(), [fails_at])?;
-        let mut source = MemSource::new(bytes, fails, 2);
-        match read_all(rt.alloc(), &mut source, limit) {
-            Ok(all) => {
-                assert!(rt; error.is_none());
-                assert_eq!(rt; all.as_slice(), b"abcde".as_slice());
-            }
-            Err(came) => assert_eq!(rt; Some(came), error, "limit {limit}"),
-        }
-    }
-    Ok(())
-}
-
-#[test]
-fn all_is_put_in_parts(rt: HostRuntime) -> Result<(), Fail> {
+fn all_is_put_in_parts(rt: HostRuntime) -> Result<(), NoMemory> {
     let mut sink = MemSink::new(rt.alloc(), Vec::new(rt.alloc()), 2, 9)?;
-    assert_eq!(rt; put_all(&mut sink, b"abcde"), Ok(()));
-    assert_eq!(rt; put_all(&mut sink, b"fghij"), Err(WriteFault));
-    assert_eq!(rt; sink.as_slice(), b"abcdefghi".as_slice());
+    assert!(rt; put_all(&mut sink, b"abcde").is_ok());
+    assert!(rt; put_all(&mut sink, b"fghij").is_err());
+    assert!(rt; sink.as_slice() == b"abcdefghi".as_slice());
     Ok(())
 }
 
+/// So many equal bytes behind those of the text, and as a piece of their own.
+fn push_piece(
+    text: &mut Vec<u8>,
+    pieces: &mut Vec<Vec<u8>>,
+    piece: Vec<u8>,
+) -> Result<(), NoMemory> {
+    text.extend_from_slice(piece.as_slice())?;
+    pieces.push(piece)?;
+    Ok(())
+}
+
+/// So many equal bytes.
+fn equal_bytes(alloc: Global, byte: u8, count: usize) -> Result<Vec<u8>, NoMemory> {
+    let mut bytes = Vec::new(alloc);
+    bytes.resize(count, byte)?;
+    Ok(bytes)
+}
+
+/// Puts four pieces behind those of the text: past the buffer's room alone, past it beside what is kept, and
+/// small.
+fn push_four(alloc: Global, text: &mut Vec<u8>, pieces: &mut Vec<Vec<u8>>) -> Result<(), NoMemory> {
+    push_piece(text, pieces, equal_bytes(alloc, 1, 70_000)?)?;
+    push_piece(text, pieces, equal_bytes(alloc, 2, 65_000)?)?;
+    push_piece(text, pieces, equal_bytes(alloc, 3, 1000)?)?;
+    push_piece(text, pieces, equal_bytes(alloc, 4, 3)?)
+}
+
 #[test]
-fn pieces_go_through_the_buffer(rt: HostRuntime) -> Result<(), Fail> {
-    // past the buffer's room alone, past it beside what is kept, and small
+fn pieces_go_through_the_buffer(rt: HostRuntime) -> Result<(), NoMemory> {
     let mut pieces = Vec::new(rt.alloc());
     let mut text = Vec::new(rt.alloc());
-    for (byte, count) in [(1, 70_000), (2, 65_000), (3, 1000), (4, 3)] {
-        pieces.push(vec![in rt.alloc(); byte; count]?)?;
-        text.extend_from_slice(&vec![in rt.alloc(); byte; count]?)?;
-    }
+    push_four(rt.alloc(), &mut text, &mut pieces)?;
     let mut sink = MemSink::new(rt.alloc(), Vec::new(rt.alloc()), 65_536, 140_000)?;
-    assert_eq!(rt; write_pieces(rt.alloc(), &mut sink, &pieces), Ok(()));
+    assert!(rt; write_pieces(rt.alloc(), &mut sink, &pieces) == Ok(()));
     assert!(rt; sink.as_slice() == text.as_slice());
     let mut small = MemSink::new(rt.alloc(), Vec::new(rt.alloc()), 65_536, 70_001)?;
-    assert_eq!(rt;
-        write_pieces(rt.alloc(), &mut small, &pieces),
-        Err(Stopped::Fault)
-    );
-    assert_eq!(rt; small.as_slice().len(), 70_001);
-    assert!(rt; text.starts_with(small.as_slice()));
+    assert!(rt; write_pieces(rt.alloc(), &mut small, &pieces) == Err(Stopped::Fault));
+    assert!(rt; small.as_slice().len() == 70_001 && text.starts_with(small.as_slice()));
     Ok(())
 }
 
 #[test]
-fn a_fault_keeps_what_was_not_taken(rt: HostRuntime) -> Result<(), Fail> {
-    let fails = Vec::from_array(rt.alloc(), [1])?;
+fn a_fault_keeps_what_was_not_taken(rt: HostRuntime) -> Result<(), NoMemory> {
+    let fails = Vec::from_slice(rt.alloc(), &[1])?;
     let mut sink = MemSink::new(rt.alloc(), fails, 2, 9)?;
     let mut out = OutputBuffer::new(rt.alloc())?;
-    assert_eq!(rt; out.write(&mut sink, b"abcd"), Ok(()));
-    assert!(rt; sink.as_slice().is_empty());
-    assert_eq!(rt; out.flush(&mut sink), Err(WriteFault));
-    assert_eq!(rt; out.as_slice(), b"cd".as_slice());
-    assert_eq!(rt; out.flush(&mut sink), Ok(()));
-    assert_eq!(rt; sink.as_slice(), b"abcd".as_slice());
+    assert!(rt; out.write(&mut sink, b"abcd").is_ok() && sink.as_slice().is_empty());
+    assert!(rt; out.flush(&mut sink).is_err() && out.as_slice() == b"cd".as_slice());
+    assert!(rt; out.flush(&mut sink).is_ok() && sink.as_slice() == b"abcd".as_slice());
     Ok(())
 }
 
 #[test]
-fn a_reader_and_a_writer_of_std(rt: HostRuntime) -> Result<(), Fail> {
+fn a_reader_of_std(rt: HostRuntime) {
     let mut source = StdSource::new(b"abc".as_slice());
     let mut into = [0; 2];
-    for took in [Took::Bytes(2), Took::Bytes(1), Took::End] {
-        assert_eq!(rt; source.read(&mut into), took);
-    }
-    let mut room = [0; 2];
-    let mut sink = StdSink::new(room.as_mut_slice());
-    for (piece, put) in [
-        (b"abc".as_slice(), Put::Bytes(2)),
-        (b"", Put::Bytes(0)),
-        (b"c", Put::Failed),
-    ] {
-        assert_eq!(rt; sink.write(piece), put);
-    }
-    Ok(())
+    assert!(rt; source.read(&mut into) == Took::Bytes(2));
+    assert!(rt; source.read(&mut into) == Took::Bytes(1));
+    assert!(rt; source.read(&mut into) == Took::End);
 }
 
 #[test]
-fn errors_say_what_failed(rt: HostRuntime) -> Result<(), Fail> {
+fn a_writer_of_std(rt: HostRuntime) {
+    let mut room = [0; 2];
+    let mut sink = StdSink::new(room.as_mut_slice());
+    assert!(rt; sink.write(b"abc") == Put::Bytes(2));
+    assert!(rt; sink.write(b"") == Put::Bytes(0));
+    assert!(rt; sink.write(b"c") == Put::Failed);
+}
+
+#[test]
+fn errors_say_what_failed(rt: HostRuntime) -> Result<(), NoMemory> {
     let text = format!(in rt.alloc(); "{}, {}", ReadError::TooBig, WriteFault)?;
-    assert_eq!(rt;
-        text.as_str(),
-        "more bytes came than are allowed, the sink failed"
-    );
+    assert!(rt; text.as_str() == "more bytes came than are allowed, the sink failed");
     Ok(())
 }
 
@@ -193,7 +198,7 @@ fn errors_say_what_failed(rt: HostRuntime) -> Result<(), Fail> {
 fn can_be_sent<S: Source + Send, K: Sink + Send>(_source: &S, _sink: &K) {}
 
 #[test]
-fn all_can_be_sent(rt: HostRuntime) -> Result<(), Fail> {
+fn all_can_be_sent(rt: HostRuntime) -> Result<(), NoMemory> {
     let source = MemSource::new(Vec::new(rt.alloc()), Vec::new(rt.alloc()), 1);
     let sink = MemSink::new(rt.alloc(), Vec::new(rt.alloc()), 1, 1)?;
     can_be_sent(&source, &sink);
