@@ -1,4 +1,4 @@
-use Rattle.std.proofs.Common.{◌≡◌, List, ℕ, length, subst}
+use Rattle.std.proofs.Common.{List, ℕ, subst}
 use Rattle.std.proofs.lemmas.Result.{err_from_is_err_and}
 use Rattle.dn_top.specs.Promises.{IsCaseRefusal}
 use Rattle.dn_top.proofs.Promising.{reading_refused, case_refused}

@@ -1,4 +1,4 @@
-use Rattle.std.proofs.Common.{◌≡◌, List, ℕ, refl, sym, subst}
+use Rattle.std.proofs.Common.{List, ℕ, refl, sym, subst}
 use Rattle.dn_top.specs.declared.words.Command.TheVariants as command
 use Rattle.dn_top.specs.Promises.{HasCase}
 use Rattle.dn_top.proofs.Answering.{case_run, writing_of_case, case_check, comparing_of_case}

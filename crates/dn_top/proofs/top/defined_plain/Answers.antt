@@ -1,6 +1,4 @@
-use Rattle.std.proofs.Common.{◌≡◌, Option, Some, None, sym, subst, ◌∙◌}
-use Rattle.dn_top.specs.declared.words.Command.{Command}
-use Rattle.dn_top.specs.Commands.{Promise, streams}
+use Rattle.std.proofs.Common.{Some, None}
 use Rattle.dn_top.proofs.Promising.{unasked, same_asked}
 use Rattle.dn_top.proofs.top.defined_plain.Goals as goal
 

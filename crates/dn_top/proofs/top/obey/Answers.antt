@@ -1,5 +1,3 @@
-use Rattle.std.proofs.Common.{List, ℕ, subst}
-use Rattle.dn_top.specs.Commands.{Fulfils}
 use Rattle.dn_top.proofs.Promising.{driven}
 use Rattle.dn_top.proofs.top.obey.Goals as goal
 
