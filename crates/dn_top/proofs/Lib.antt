@@ -7,3 +7,4 @@ pub mod Places
 pub mod Ends
 pub mod DrivesAnswering
 pub mod DrivesCompleting
+pub mod Promising

@@ -3,3 +3,4 @@ pub mod Lines
 pub mod Promises
 pub mod Completeness
 pub mod Drives
+pub mod Commands

@@ -1,32 +1,50 @@
 //! The commands: what each reads, writes and answers.
 //!
-//! A command is given a source and a sink. It reads the source to its end, finds the case at its front,
-//! runs it, and writes. `defined_top` is the whole program but for the real source and sink, so its
-//! contract is the program's promise.
+//! A command is given a source and a sink. `defined_top` is the whole program but for the real source and
+//! sink, so its contract is the program's promise.
 //!
 //! | File | What it has |
 //! |---|---|
 //! | `words.rt` | the commands and their words |
 //! | `status.rt` | how a command ended: the exit status and the line on standard error |
 //! | `input.rt` | reading the input and the case at its front |
-//! | `written.rt` | writing a case and the trace of its lockstep run |
-//! | `run.rt` | `run` and `lockstep` |
+//! | `top.rt` | the top calls, and the one way through all commands |
+//! | `written.rt` | `run` and `lockstep`: writing a case and the trace of its lockstep run |
 //! | `checking.rt` | `check` |
 //! | `driven.rt` | the fabric of a case, and writing what it shows |
 //! | `rerun.rt` | `rerun` |
 //! | `shake.rt` | `shake` |
-//! | `top.rt` | the top calls |
 //!
-//! The one contract upwards: the table `Answers` of `specs/Promises.antt`. For each command and each
-//! status it says what the input was and what was written, over the definitions of the case text
-//! (`dn_case`), the lockstep run (`dn_model`) and the trace text (`dn_trace`).
+//! The one contract upwards: the record `Promise` of `specs/Commands.antt`, what a command says of its
+//! source, its sink and its status. It stands on the table `Answers` of `specs/Promises.antt`: for each
+//! command and each status it says what the input was and what was written, over the definitions of the
+//! case text (`dn_case`), the lockstep run (`dn_model`) and the trace text (`dn_trace`).
+//!
+//! All commands go one way:
+//!
+//! ```text
+//! words     command_of          None: Usage
+//! source    read_given          a refusal keeps the promise of every command
+//!             |  Given: the input, the case at its front, how many bytes that has
+//!           answer              one arm for each command
+//!             |-- run_case      run, lockstep    (case)
+//!             |-- check_case    check            (input, case, size)
+//!             |-- rerun_case    rerun            (input, case, size)
+//!             |-- shake_case    shake            (schedule, case)
+//!             |-- ..            a further command is one more driver
+//! sink      Status
+//! ```
+//!
+//! A driver is a function from the input, the case and its size, and the sink, to a status. A further one
+//! has its file, its arm in `answer` (one that waits: its arm in `defined_top`), its rows in the tables
+//! `Answers` and `Owes`, and the lemma that its answer is in them. What holds of reading, of faults and
+//! of the words comes from `Promise` and isn't said again.
 #![tactic(auto)]
 
 mod checking;
 mod driven;
 mod input;
 mod rerun;
-mod run;
 mod shake;
 mod status;
 mod top;

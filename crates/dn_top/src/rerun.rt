@@ -1,24 +1,23 @@
 //! `rerun`: the steps of a journal are taken one by one.
 
-ghost use Rattle.std.specs.Prelude.{◌≡◌, ◌≢◌, ◌+◌, ◌<◌, ◌≤◌, ◌^◌, [], true, length, take, IfOk, IfErr, IfSome};
-ghost use Rattle.dn_io.specs.Streams.{Rose, Gives};
+ghost use Rattle.std.specs.Prelude.{◌≡◌, ◌+◌, ◌<◌, ◌≤◌, ◌^◌, true, length, take, IfOk, IfErr};
+ghost use Rattle.dn_io.specs.Streams.{Rose};
 ghost use Rattle.dn_model.specs.Cases.{IsRecording};
 ghost use Rattle.dn_text.specs.Lines.{lines};
 ghost use Rattle.dn_journal.specs.Reading.{IsJournal};
 ghost use Rattle.dn_drive.specs.Driving.{IsOpening};
 ghost use Rattle.dn_drive.specs.Endings.{StandsAt};
-ghost use Rattle.dn_top.specs.Promises.{AnswersRerun, HasCase, network_of, outcome_of, written, journal_place, journal_lines, input_limit, is_of_whole_input, is_of_case, is_of_command};
-ghost use Rattle.dn_top.specs.Drives.{IsFabricOf, ShowsRun, Shows, Drives, IsJournalRefusal, HasOneJournal, is_of_steps};
+ghost use Rattle.dn_top.specs.Promises.{AnswersRerun, HasCase, network_of, outcome_of, written, journal_place, journal_lines, input_limit, is_of_case};
+ghost use Rattle.dn_top.specs.Drives.{IsFabricOf, ShowsRun, Shows, Drives, IsJournalRefusal, HasOneJournal};
 
 use crate::checking::behind;
 use crate::driven::{fabric_of, push_ends, write_driven};
-use crate::input::{first_case, read_input};
 use crate::status::Status;
 use dn_case::{CaseError, CaseFault, split_trace};
 use dn_drive::{Ended, replay};
 use dn_fabric::Fabric;
 use dn_guest::{Bytes, NoMemory};
-use dn_io::{Sink, Source};
+use dn_io::Sink;
 use dn_journal::{Step, read_journal};
 use dn_model::{Case, External, Header};
 use dn_text::first_line;
@@ -26,46 +25,14 @@ use dn_trace::Ending;
 use guest_any::AnyGuest;
 use std::alloc::Global;
 
-/// Reads a case and the journal behind it, takes its steps, and writes the recording and the trace.
-pub(crate) fn rerun_journal<S: Source, K: Sink>(
+/// Takes the steps of the journal behind the case, which has the first `size` bytes.
+pub(crate) fn rerun_case<K: Sink>(
     alloc: Global,
-    source: &mut S,
+    input: &[u8],
+    case: &Case,
+    size: u64,
     sink: &mut K,
 ) -> Status
-    ensures answers { IfSome (S.left source.old) (λ input. AnswersRerun result input (K.holds sink.old) (K.holds sink.new)) }
-    ensures one { is_of_steps result ≡ true → IfSome (S.left source.old) (λ input. HasOneJournal input) }
-    ensures only { is_of_command result ≡ true }
-    ensures read { is_of_whole_input result ≡ true → IfSome (S.left source.new) (λ left. left ≡ []) }
-    ensures read_fault { result ≡ Status.ReadFault → Rose (S.faults source.old) (S.faults source.new) }
-    ensures write_fault { result ≡ Status.WriteFault → Rose (K.faults sink.old) (K.faults sink.new) }
-    ensures too_big { result ≡ Status.TooBig → Gives (S.left source.old) (S.left source.new) (λ came. input_limit < length came) }
-    ensures not_too_big { result ≢ Status.TooBig → Gives (S.left source.old) (S.left source.new) (λ came. length came ≤ input_limit) }
-    ensures source_later { S.faults source.old ≤ S.faults source.new }
-    ensures sink_later { K.faults sink.old ≤ K.faults sink.new }
-{
-    match read_input(alloc, source) {
-        Ok(input) => rerun_input(alloc, input.as_slice(), sink),
-        Err(status) => status,
-    }
-}
-
-/// Takes the steps of the journal behind the case at the front of the input.
-fn rerun_input<K: Sink>(alloc: Global, input: &[u8], sink: &mut K) -> Status
-    requires { length input.now ≤ input_limit }
-    ensures answers { AnswersRerun result input.now (K.holds sink.old) (K.holds sink.new) }
-    ensures one { is_of_steps result ≡ true → HasOneJournal input.now }
-    ensures only { is_of_case result ≡ true }
-    ensures fault { result ≡ Status.WriteFault → Rose (K.faults sink.old) (K.faults sink.new) }
-    ensures later { K.faults sink.old ≤ K.faults sink.new }
-{
-    match first_case(alloc, input) {
-        Ok((case, size)) => rerun_case(alloc, input, &case, size, sink),
-        Err(status) => status,
-    }
-}
-
-/// Takes the steps of the journal behind the case, which has the first `size` bytes.
-fn rerun_case<K: Sink>(alloc: Global, input: &[u8], case: &Case, size: u64, sink: &mut K) -> Status
     requires has { HasCase input.now case.now size }
     requires within { size ≤ length input.now }
     ensures answers { AnswersRerun result input.now (K.holds sink.old) (K.holds sink.new) }

@@ -1,7 +1,7 @@
 //! `shake`: the steps of a schedule are taken one by one.
 
-ghost use Rattle.std.specs.Prelude.{◌≡◌, ◌≢◌, ◌<◌, ◌≤◌, ◌++◌, [], true, false, length, IfOk, IfSome, OnOk};
-ghost use Rattle.dn_io.specs.Streams.{Rose, Gives};
+ghost use Rattle.std.specs.Prelude.{◌≡◌, ◌≤◌, ◌++◌, false, IfOk, OnOk};
+ghost use Rattle.dn_io.specs.Streams.{Rose};
 ghost use Rattle.dn_model.specs.Cases.{IsRecording};
 ghost use Rattle.guest_any.specs.Any.{any};
 ghost use Rattle.dn_fabric.specs.Fabrics.{IsNetworkOf};
@@ -9,59 +9,21 @@ ghost use Rattle.dn_drive.specs.Driving.{IsOpening};
 ghost use Rattle.dn_drive.specs.Endings.{IsLegalEnd, StandsAt};
 ghost use Rattle.dn_trace.specs.Trace.{end_text};
 ghost use Rattle.dn_journal.specs.Spelling.{journal_text};
-ghost use Rattle.dn_top.specs.Promises.{AnswersShake, network_of, outcome_of, steps_of, shaken, input_limit, is_of_whole_input, is_of_case, is_of_command};
+ghost use Rattle.dn_top.specs.Promises.{network_of, outcome_of, steps_of, shaken};
 ghost use Rattle.dn_top.specs.Drives.{IsFabricOf, ShowsRun, Shows, Drives, is_illegal};
 
 use crate::driven::{fabric_of, push_ends, write_driven};
-use crate::input::{first_case, read_input};
 use crate::status::Status;
 use crate::words::Schedule;
 use dn_drive::{Ended, shake};
 use dn_fabric::Fabric;
 use dn_guest::{Bytes, NoMemory};
-use dn_io::{Sink, Source};
+use dn_io::Sink;
 use dn_journal::write_journal;
 use dn_model::{Case, External, Header};
 use dn_trace::Ending;
 use guest_any::AnyGuest;
 use std::alloc::Global;
-
-/// Reads a case, takes the steps of the schedule, and writes the recording, the trace and the journal.
-pub(crate) fn shake_case<S: Source, K: Sink>(
-    alloc: Global,
-    schedule: Schedule,
-    source: &mut S,
-    sink: &mut K,
-) -> Status
-    ensures answers { IfSome (S.left source.old) (λ input. AnswersShake schedule result input (K.holds sink.old) (K.holds sink.new)) }
-    ensures only { is_of_command result ≡ true }
-    ensures read { is_of_whole_input result ≡ true → IfSome (S.left source.new) (λ left. left ≡ []) }
-    ensures read_fault { result ≡ Status.ReadFault → Rose (S.faults source.old) (S.faults source.new) }
-    ensures write_fault { result ≡ Status.WriteFault → Rose (K.faults sink.old) (K.faults sink.new) }
-    ensures too_big { result ≡ Status.TooBig → Gives (S.left source.old) (S.left source.new) (λ came. input_limit < length came) }
-    ensures not_too_big { result ≢ Status.TooBig → Gives (S.left source.old) (S.left source.new) (λ came. length came ≤ input_limit) }
-    ensures source_later { S.faults source.old ≤ S.faults source.new }
-    ensures sink_later { K.faults sink.old ≤ K.faults sink.new }
-{
-    match read_input(alloc, source) {
-        Ok(input) => shake_input(alloc, schedule, input.as_slice(), sink),
-        Err(status) => status,
-    }
-}
-
-/// Takes the steps of the schedule for the case at the front of the input.
-fn shake_input<K: Sink>(alloc: Global, schedule: Schedule, input: &[u8], sink: &mut K) -> Status
-    requires { length input.now ≤ input_limit }
-    ensures answers { AnswersShake schedule result input.now (K.holds sink.old) (K.holds sink.new) }
-    ensures only { is_of_case result ≡ true }
-    ensures fault { result ≡ Status.WriteFault → Rose (K.faults sink.old) (K.faults sink.new) }
-    ensures later { K.faults sink.old ≤ K.faults sink.new }
-{
-    match first_case(alloc, input) {
-        Ok((case, _size)) => shake_steps(alloc, schedule, &case, sink),
-        Err(status) => status,
-    }
-}
 
 /// Takes the steps of the schedule on the case's fabric, as it is before the first one.
 fn scheduled(
@@ -85,7 +47,12 @@ fn scheduled(
 }
 
 /// Takes the steps, and writes what they come to.
-fn shake_steps<K: Sink>(alloc: Global, schedule: Schedule, case: &Case, sink: &mut K) -> Status
+pub(crate) fn shake_case<K: Sink>(
+    alloc: Global,
+    schedule: Schedule,
+    case: &Case,
+    sink: &mut K,
+) -> Status
     ensures answers { Drives case.now (outcome_of case.now (steps_of case.now schedule)) (shaken case.now (steps_of case.now schedule)) result (K.holds sink.old) (K.holds sink.new) }
     ensures rules { IsRecording case.now }
     ensures legal { is_illegal result ≡ false }

@@ -1,63 +1,39 @@
 //! The top calls: all that the program does.
 
-ghost use Rattle.std.specs.Prelude.{◌≡◌, ◌≢◌, ◌↔◌, ◌<◌, ◌≤◌, [], true, None, length, map, IfSome};
+ghost use Rattle.std.specs.Prelude.{Some, length, map, ◌≤◌};
 ghost use Rattle.std.specs.String.{string_bytes};
-ghost use Rattle.dn_io.specs.Streams.{Rose, Gives};
 ghost use Rattle.dn_top.specs.Words.{command_of, plain_of};
-ghost use Rattle.dn_top.specs.declared.status.Status.{Status};
-ghost use Rattle.dn_top.specs.Promises.{Answers, input_limit, is_of_whole_input};
-ghost use Rattle.dn_top.specs.Completeness.{Owes, IsCalm, IsAnswered};
+ghost use Rattle.dn_top.specs.Promises.{HasCase};
+ghost use Rattle.dn_top.specs.Commands.{Promise, Fulfils, streams};
 
-use crate::checking::check_trace;
-use crate::rerun::rerun_journal;
-use crate::run::run_lockstep;
+use crate::checking::check_case;
+use crate::input::{Given, read_given};
+use crate::rerun::rerun_case;
 use crate::shake::shake_case;
 use crate::status::Status;
-use crate::words::{Command, command_of};
+use crate::words::{Command, command_of, plain_of};
+use crate::written::run_case;
 use dn_io::{Sink, Source};
 use std::alloc::Global;
 
 /// Does what the words ask: reads the source, writes the sink, and answers how it ended.
 ///
-/// The promise is the table `Answers` of `specs/Promises.antt`: for each command and each status, what
-/// the input was and what was written. The recording is the one spelling of the case at the front of the
-/// input; the trace is that of the lockstep run of the model. A fault comes only where a count of faults
-/// rose in this call. The call always returns.
+/// The promise is the record `Promise` of `specs/Commands.antt`. Its field `answers` is the table
+/// `Answers` of `specs/Promises.antt`: for each command and each status, what the input was and what was
+/// written. The recording is the one spelling of the case at the front of the input; the trace is that
+/// of the lockstep run of the model. A fault comes only where a count of faults rose in this call. The
+/// call always returns.
 pub fn defined_top<S: Source, K: Sink>(
     alloc: Global,
     words: &[String],
     source: &mut S,
     sink: &mut K,
 ) -> Status
-    // What each status says of the input, and what was written.
-    ensures answers { IfSome (command_of (map string_bytes words.now)) (λ command. IfSome (S.left source.old) (λ input.
-        Answers command result input (K.holds sink.old) (K.holds sink.new))) }
-
-    // Each cause has its answer: where no fault came, what the input asks for is answered, or there was no memory.
-    ensures complete { IfSome (command_of (map string_bytes words.now)) (λ command. IfSome (S.left source.old) (λ input. (owed : Status) →
-        Owes command input owed → IsCalm (S.faults source.old) (S.faults source.new) → IsCalm (K.faults sink.old) (K.faults sink.new) → IsAnswered owed result)) }
-
-    // Words that are no command, and no others; nothing is read or written then.
-    ensures usage { (result ≡ Status.Usage) ↔ (command_of (map string_bytes words.now) ≡ None) }
-    ensures unread { result ≡ Status.Usage → S.left source.new ≡ S.left source.old }
-    ensures unwritten { result ≡ Status.Usage → K.holds sink.new ≡ K.holds sink.old }
-
-    // A source that was read to its end, and one that gave too much.
-    ensures read { is_of_whole_input result ≡ true → IfSome (S.left source.new) (λ left. left ≡ []) }
-    ensures too_big { result ≡ Status.TooBig → Gives (S.left source.old) (S.left source.new) (λ came. input_limit < length came) }
-    ensures not_too_big { result ≢ Status.TooBig → Gives (S.left source.old) (S.left source.new) (λ came. length came ≤ input_limit) }
-
-    // Faults, also where source and sink tell nothing of their bytes.
-    ensures read_fault { result ≡ Status.ReadFault → Rose (S.faults source.old) (S.faults source.new) }
-    ensures write_fault { result ≡ Status.WriteFault → Rose (K.faults sink.old) (K.faults sink.new) }
+    ensures { Promise (command_of (map string_bytes words.now)) result (streams (S.left source.old) (S.faults source.old) (K.holds sink.old) (K.faults sink.old)) (streams (S.left source.new) (S.faults source.new) (K.holds sink.new) (K.faults sink.new)) }
 {
     match command_of(words) {
+        Some(command) => obey(alloc, command, source, sink),
         None => Status::Usage,
-        Some(Command::Run) => run_lockstep(alloc, source, sink),
-        Some(Command::Lockstep) => run_lockstep(alloc, source, sink),
-        Some(Command::Check) => check_trace(alloc, source),
-        Some(Command::Rerun) => rerun_journal(alloc, source, sink),
-        Some(Command::Shake(schedule)) => shake_case(alloc, schedule, source, sink),
     }
 }
 
@@ -69,34 +45,38 @@ pub fn defined_plain<S: Source, K: Sink>(
     source: &mut S,
     sink: &mut K,
 ) -> Status
-    // What each status says of the input, and what was written.
-    ensures answers { IfSome (plain_of (command_of (map string_bytes words.now))) (λ command. IfSome (S.left source.old) (λ input.
-        Answers command result input (K.holds sink.old) (K.holds sink.new))) }
-
-    // Each cause has its answer: where no fault came, what the input asks for is answered, or there was no memory.
-    ensures complete { IfSome (plain_of (command_of (map string_bytes words.now))) (λ command. IfSome (S.left source.old) (λ input. (owed : Status) →
-        Owes command input owed → IsCalm (S.faults source.old) (S.faults source.new) → IsCalm (K.faults sink.old) (K.faults sink.new) → IsAnswered owed result)) }
-
-    // Words that are no command here, and no others; nothing is read or written then.
-    ensures usage { (result ≡ Status.Usage) ↔ (plain_of (command_of (map string_bytes words.now)) ≡ None) }
-    ensures unread { result ≡ Status.Usage → S.left source.new ≡ S.left source.old }
-    ensures unwritten { result ≡ Status.Usage → K.holds sink.new ≡ K.holds sink.old }
-
-    // A source that was read to its end, and one that gave too much.
-    ensures read { is_of_whole_input result ≡ true → IfSome (S.left source.new) (λ left. left ≡ []) }
-    ensures too_big { result ≡ Status.TooBig → Gives (S.left source.old) (S.left source.new) (λ came. input_limit < length came) }
-    ensures not_too_big { result ≢ Status.TooBig → Gives (S.left source.old) (S.left source.new) (λ came. length came ≤ input_limit) }
-
-    // Faults, also where source and sink tell nothing of their bytes.
-    ensures read_fault { result ≡ Status.ReadFault → Rose (S.faults source.old) (S.faults source.new) }
-    ensures write_fault { result ≡ Status.WriteFault → Rose (K.faults sink.old) (K.faults sink.new) }
+    ensures { Promise (plain_of (command_of (map string_bytes words.now))) result (streams (S.left source.old) (S.faults source.old) (K.holds sink.old) (K.faults sink.old)) (streams (S.left source.new) (S.faults source.new) (K.holds sink.new) (K.faults sink.new)) }
 {
-    match command_of(words) {
+    match plain_of(command_of(words)) {
+        Some(plain) => obey(alloc, plain, source, sink),
         None => Status::Usage,
-        Some(Command::Run) => Status::Usage,
-        Some(Command::Lockstep) => run_lockstep(alloc, source, sink),
-        Some(Command::Check) => check_trace(alloc, source),
-        Some(Command::Rerun) => rerun_journal(alloc, source, sink),
-        Some(Command::Shake(schedule)) => shake_case(alloc, schedule, source, sink),
+    }
+}
+
+/// Does what the command asks: reads the input and the case at its front, and lets the command go on
+/// from there.
+fn obey<S: Source, K: Sink>(alloc: Global, command: Command, source: &mut S, sink: &mut K) -> Status
+    ensures { Promise (Some command) result (streams (S.left source.old) (S.faults source.old) (K.holds sink.old) (K.faults sink.old)) (streams (S.left source.new) (S.faults source.new) (K.holds sink.new) (K.faults sink.new)) }
+{
+    match read_given(alloc, source) {
+        Ok(given) => answer(alloc, command, &given, sink),
+        Err(status) => status,
+    }
+}
+
+/// Hands the case, and what else of the input it needs, to the command's driver.
+fn answer<K: Sink>(alloc: Global, command: Command, given: &Given, sink: &mut K) -> Status
+    requires has { HasCase given.now.input.items given.now.case given.now.size }
+    requires within { given.now.size ≤ length given.now.input.items }
+    ensures { Fulfils command given.now.input.items result (K.holds sink.old) (K.holds sink.new) (K.faults sink.old) (K.faults sink.new) }
+{
+    let input = given.input.as_slice();
+    let case = &given.case;
+    match command {
+        Command::Run => run_case(alloc, case, sink),
+        Command::Lockstep => run_case(alloc, case, sink),
+        Command::Check => check_case(alloc, input, case, given.size),
+        Command::Rerun => rerun_case(alloc, input, case, given.size, sink),
+        Command::Shake(schedule) => shake_case(alloc, schedule, case, sink),
     }
 }

@@ -2,7 +2,7 @@
 
 ghost use Rattle.std.specs.Prelude.{◌≡◌, map};
 ghost use Rattle.std.specs.String.{string_bytes};
-ghost use Rattle.dn_top.specs.Words.{command_of_word, command_of, shake_of, scheduled};
+ghost use Rattle.dn_top.specs.Words.{command_of_word, command_of, shake_of, scheduled, plain_of};
 
 use dn_text::decimal;
 
@@ -45,6 +45,16 @@ pub fn command_of(words: &[String]) -> Option<Command>
             steps.as_str(),
         ),
         _ => None,
+    }
+}
+
+/// The same without `run`, which alone may wait.
+pub(crate) fn plain_of(command: Option<Command>) -> Option<Command>
+    ensures { result ≡ plain_of command }
+{
+    match command {
+        Some(Command::Run) => None,
+        other => other,
     }
 }
 

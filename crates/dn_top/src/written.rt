@@ -19,7 +19,7 @@ use guest_any::{AnyGuest, make};
 use std::alloc::Global;
 
 /// Writes the recording, and then the trace.
-pub(crate) fn write_run<K: Sink>(alloc: Global, case: &Case, sink: &mut K) -> Status
+pub(crate) fn run_case<K: Sink>(alloc: Global, case: &Case, sink: &mut K) -> Status
     ensures ok { result ≡ Status.Ok → is_cut_case case.now ≡ false }
     ensures cut { result ≡ Status.Cut → is_cut_case case.now ≡ true }
     ensures whole_at_ok { result ≡ Status.Ok → K.holds sink.new ≡ behind (K.holds sink.old) (written case.now) }

@@ -1,29 +1,9 @@
-use Rattle.dn_top.proofs.Completing.{run_completes, check_completes, for_run, for_lockstep, for_check}
-use Rattle.dn_top.specs.declared.words.Command.TheVariants as command
-use Rattle.dn_top.proofs.DrivesCompleting.{rerun_completes, shake_completes, for_command}
+use Rattle.std.proofs.Common.{Some, None}
+use Rattle.dn_top.proofs.Promising.{unasked, same_asked}
 use Rattle.dn_top.proofs.top.defined_top.Goals as goal
 
-pub returns-in-Some-Run-clause-complete : goal.returns-in-Some-Run-clause-complete
-returns-in-Some-Run-clause-complete g c =
-    for_run _ _ _ _ _ _ _ (cc (c.command_of.ensures, c.in-Some-Run.is, c.in-Some-Run.field-0-is))
-    (run_completes _ _ _ _ _ _ _ _ c.run_lockstep.ensures.answers c.run_lockstep.ensures.read_fault c.run_lockstep.ensures.write_fault)
+pub returns-in-Some : goal.returns-in-Some
+returns-in-Some g c = same_asked _ (Some c.in-Some.command) c.obey.result _ _ (cc (c.command_of.ensures, c.in-Some.is)) c.obey.ensures
 
-pub returns-in-Some-Lockstep-clause-complete : goal.returns-in-Some-Lockstep-clause-complete
-returns-in-Some-Lockstep-clause-complete g c =
-    for_lockstep _ _ _ _ _ _ _ (cc (c.command_of.ensures, c.in-Some-Lockstep.is, c.in-Some-Lockstep.field-0-is))
-    (run_completes _ _ _ _ _ _ _ _ c.run_lockstep-in-Some-Lockstep.ensures.answers c.run_lockstep-in-Some-Lockstep.ensures.read_fault c.run_lockstep-in-Some-Lockstep.ensures.write_fault)
-
-pub returns-in-Some-Check-clause-complete : goal.returns-in-Some-Check-clause-complete
-returns-in-Some-Check-clause-complete g c =
-    for_check _ _ _ _ _ _ _ (cc (c.command_of.ensures, c.in-Some-Check.is, c.in-Some-Check.field-0-is))
-    (check_completes _ _ _ _ _ _ c.check_trace.ensures.answers c.check_trace.ensures.read_fault)
-
-pub returns-in-Some-Rerun-clause-complete : goal.returns-in-Some-Rerun-clause-complete
-returns-in-Some-Rerun-clause-complete g c =
-    for_command _ command.Rerun _ _ _ _ _ _ (cc (c.command_of.ensures, c.in-Some-Rerun.is, c.in-Some-Rerun.field-0-is))
-    (rerun_completes _ _ _ _ _ _ _ _ c.rerun_journal.ensures.answers c.rerun_journal.ensures.one c.rerun_journal.ensures.read_fault c.rerun_journal.ensures.write_fault)
-
-pub returns-in-Some-Shake-clause-complete : goal.returns-in-Some-Shake-clause-complete
-returns-in-Some-Shake-clause-complete g c =
-    for_command _ (command.Shake c.in-Some-Shake.schedule) _ _ _ _ _ _ (cc (c.command_of.ensures, c.in-Some-Shake.is, c.in-Some-Shake.field-0-is))
-    (shake_completes c.in-Some-Shake.schedule _ _ _ _ _ _ _ _ c.shake_case.ensures.answers c.shake_case.ensures.read_fault c.shake_case.ensures.write_fault)
+pub returns-in-None : goal.returns-in-None
+returns-in-None g c = same_asked _ None _ _ _ (cc (c.command_of.ensures, c.in-None.is)) (unasked (g.S.Source.left c.args.source.now) (g.S.Source.faults c.args.source.now) (g.K.Sink.holds c.args.sink.now) (g.K.Sink.faults c.args.sink.now))

@@ -2,7 +2,7 @@ use Rattle.std.proofs.Common.{ℕ, drop, arith, subst}
 use Rattle.dn_trace.specs.Differing.{DiffersAt}
 use Rattle.dn_top.specs.Promises.{IsOtherTrace, network_of, trace_of}
 use Rattle.dn_top.proofs.Networks.{place_within, other_trace}
-use Rattle.dn_top.proofs.checking.compare.Goals as goal
+use Rattle.dn_top.proofs.checking.check_case.Goals as goal
 
 -- src/checking.rt:69:56
 pub overflow_add-result : goal.overflow_add-result
