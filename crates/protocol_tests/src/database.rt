@@ -4,7 +4,7 @@ ghost use Rattle.std.specs.Prelude.{◌≡◌, IfOk, length};
 
 use dn_guest::Bytes;
 use ospf_lsdb::{Kept, LsaKey, Lsdb};
-use ospf_wire::{INITIAL_SEQUENCE_NUMBER, MAX_SEQUENCE_NUMBER, Lsa, LsaHeader, NoMemory};
+use ospf_wire::{INITIAL_SEQUENCE_NUMBER, Lsa, LsaHeader, MAX_SEQUENCE_NUMBER, NoMemory};
 use std::alloc::Global;
 use std::test::Fail;
 
@@ -51,7 +51,10 @@ fn the_own_lsa_begins_and_goes_on(rt: HostRuntime) -> Result<(), Fail> {
     let mut database = Lsdb::new(rt.alloc());
     assert_eq!(rt; database.originate(1, no_links(rt.alloc())?, 7)?, Some(OWN));
     let head = database.get(&OWN).ok_or("no LSA")?.lsa.head;
-    assert_eq!(rt; (head.seq, head.sum, head.length), (INITIAL_SEQUENCE_NUMBER, 0x6ff1, 24));
+    assert_eq!(rt;
+        (head.seq, head.sum, head.length),
+        (INITIAL_SEQUENCE_NUMBER, 0x6ff1, 24)
+    );
     assert_eq!(rt;
         database.originate(1, no_links(rt.alloc())?, 12)?,
         Some(OWN)
@@ -77,8 +80,18 @@ fn the_own_lsa_stays_at_the_greatest_sequence(rt: HostRuntime) -> Result<(), Fai
 #[test]
 fn ages_reach_the_end_once(rt: HostRuntime) -> Result<(), Fail> {
     let mut database = Lsdb::new(rt.alloc());
-    database.install(lsa(rt.alloc(), OTHER, 3_590, INITIAL_SEQUENCE_NUMBER), 100, true, false)?;
-    database.install(lsa(rt.alloc(), OWN, 0, INITIAL_SEQUENCE_NUMBER), 100, false, false)?;
+    database.install(
+        lsa(rt.alloc(), OTHER, 3_590, INITIAL_SEQUENCE_NUMBER),
+        100,
+        true,
+        false,
+    )?;
+    database.install(
+        lsa(rt.alloc(), OWN, 0, INITIAL_SEQUENCE_NUMBER),
+        100,
+        false,
+        false,
+    )?;
     assert_eq!(rt; database.age(&OTHER, 109), Some(3_599));
     assert_eq!(rt; database.tick(109)?.len(), 0);
     assert_eq!(rt; database.tick(110)?.as_slice(), [OTHER].as_slice());
@@ -94,8 +107,18 @@ fn ages_reach_the_end_once(rt: HostRuntime) -> Result<(), Fail> {
 #[test]
 fn an_lsa_is_sent_flushed_and_dropped(rt: HostRuntime) -> Result<(), Fail> {
     let mut database = Lsdb::new(rt.alloc());
-    database.install(lsa(rt.alloc(), OTHER, 0, INITIAL_SEQUENCE_NUMBER), 0, true, false)?;
-    database.install(lsa(rt.alloc(), OWN, 0, INITIAL_SEQUENCE_NUMBER), 0, true, false)?;
+    database.install(
+        lsa(rt.alloc(), OTHER, 0, INITIAL_SEQUENCE_NUMBER),
+        0,
+        true,
+        false,
+    )?;
+    database.install(
+        lsa(rt.alloc(), OWN, 0, INITIAL_SEQUENCE_NUMBER),
+        0,
+        true,
+        false,
+    )?;
     database.note_sent(&OTHER, 4);
     database.flush(&OTHER, 5);
     let kept = database.get(&OTHER).ok_or("no LSA")?;
@@ -111,7 +134,12 @@ fn an_lsa_is_sent_flushed_and_dropped(rt: HostRuntime) -> Result<(), Fail> {
 
 #[test]
 fn a_copy_of_what_is_kept(rt: HostRuntime) -> Result<(), Fail> {
-    let kept = Kept::new(lsa(rt.alloc(), OWN, 0, INITIAL_SEQUENCE_NUMBER), 1, true, false);
+    let kept = Kept::new(
+        lsa(rt.alloc(), OWN, 0, INITIAL_SEQUENCE_NUMBER),
+        1,
+        true,
+        false,
+    );
     let copy = kept.clone()?;
     assert!(rt; copy == kept);
     Ok(())

@@ -3,8 +3,8 @@
 
 use dn_guest::Bytes;
 use ospf_wire::{
-    Body, Hello, Ids, MAX_SEQUENCE_NUMBER, Lsa, LsaHeader, Packet, decode, encode, fletcher_ok, fletcher_set,
-    ip_sum, newer,
+    Body, Hello, Ids, Lsa, LsaHeader, MAX_SEQUENCE_NUMBER, Packet, decode, encode, fletcher_ok,
+    fletcher_set, ip_sum, newer,
 };
 use std::cmp::Ordering;
 use std::test::Fail;
