@@ -6,7 +6,7 @@ use crate::fields::Line;
 use crate::out::Out;
 use dn_guest::{Bytes, NoMemory};
 use ospf_lsdb::{Kept, LsaKey};
-use ospf_wire::{FIRST_SEQ, Lsa, LsaHeader, fletcher_set};
+use ospf_wire::{INITIAL_SEQUENCE_NUMBER, Lsa, LsaHeader, fletcher_set};
 use std::alloc::Global;
 
 /// The LSA of the fields: type, link state id and advertising router (1, 5 and 5 if nothing is said), age,
@@ -46,7 +46,7 @@ fn header_of(line: &mut Line<'_>, length: u16) -> LsaHeader
         kind: line.byte("type", 1),
         id: line.number("id", 5),
         router: line.number("adv", 5),
-        seq: line.some("seq", 16, u32::MAX).unwrap_or(FIRST_SEQ),
+        seq: line.some("seq", 16, u32::MAX).unwrap_or(INITIAL_SEQUENCE_NUMBER),
         sum: 0,
         length,
     }

@@ -3,6 +3,7 @@
 
 ghost use Rattle.std.specs.Prelude.{◌≡◌, ◌+◌, IfOk, length};
 
+use crate::checks::Checks;
 use dn_guest::Bytes;
 use ospf_flood::{Lists, NoMemory, Verdict, flood, receive};
 use ospf_lsdb::{LsaKey, Lsdb};
@@ -14,6 +15,13 @@ use std::test::Fail;
 const KEY: LsaKey = LsaKey {
     kind: 1,
     id: 5,
+    router: 5,
+};
+
+/// Another one, of router 5 too.
+const OTHER: LsaKey = LsaKey {
+    kind: 1,
+    id: 3,
     router: 5,
 };
 
@@ -66,16 +74,15 @@ fn four_lists(alloc: Global, listed: u16) -> Result<Lists, NoMemory>
     Ok(lists)
 }
 
-/// The ticks at which an LSA was last sent on the four ports.
-fn ticks(lists: &Lists, key: &LsaKey) -> [Option<u32>; 4]
+/// Whether the LSA was last sent on the ports 0, 1, 2 and 3 at these ticks; 0 is never.
+fn are_ticks(lists: &Lists, key: &LsaKey, ticks: [u32; 4]) -> bool
     requires { length lists.now ≡ 4 }
 {
-    [
-        lists.sent_at(0, key),
-        lists.sent_at(1, key),
-        lists.sent_at(2, key),
-        lists.sent_at(3, key),
-    ]
+    let [a, b, c, d] = ticks;
+    lists.sent_at(0, key).unwrap_or(0) == a
+        && lists.sent_at(1, key).unwrap_or(0) == b
+        && lists.sent_at(2, key).unwrap_or(0) == c
+        && lists.sent_at(3, key).unwrap_or(0) == d
 }
 
 /// A database of so many LSAs of the routers from 100 on.
@@ -93,79 +100,146 @@ fn filled(alloc: Global, count: u32) -> Result<Lsdb, NoMemory> {
     Ok(db)
 }
 
-/// The verdict on an LSA of this name, age and sequence number, and how many LSAs there are then.
-fn receive_one(
+/// Whether this is the verdict on an LSA of this name, age and sequence number, and 65,534 are there then.
+fn gives(
     alloc: Global,
     db: &mut Lsdb,
     key: LsaKey,
     age: u16,
     seq: u32,
-) -> Result<(Verdict, u64), NoMemory> {
+    verdict: Verdict,
+) -> Result<bool, NoMemory> {
     let mut lists = four_lists(alloc, 0)?;
     let came = lsa(alloc, key, age, seq)?;
     let step = receive(db, &mut lists, FULL, FROM, &came, OWN, NOW)?;
-    Ok((step.verdict, db.len()))
+    Ok(step.verdict == verdict && db.len() == 65_534)
 }
 
 #[test]
-fn a_full_database_takes_newer_instances_alone(rt: HostRuntime) -> Result<(), Fail> {
+fn flooding(rt: HostRuntime) -> Result<(), Fail> {
+    let mut checks = Checks::new();
+    a_full_database(rt.alloc(), &mut checks)?;
+    lists_are_maps(rt.alloc(), &mut checks)?;
+    is_flooded(rt.alloc(), &mut Lsdb::new(rt.alloc()), &mut checks)?;
+    checks.end()?;
+    Ok(())
+}
+
+/// A full database takes newer instances alone.
+fn a_full_database(alloc: Global, checks: &mut Checks) -> Result<(), NoMemory> {
     let known = LsaKey {
         kind: 1,
         id: 100,
         router: 100,
     };
     let other = LsaKey { id: 6, ..KEY };
-    let mut db = filled(rt.alloc(), 65_533)?;
-    for (key, age, seq, want) in [
-        (KEY, 0, SEQ, Verdict::Installed),
-        (other, 0, SEQ, Verdict::Discarded),
-        (other, 3_600, SEQ, Verdict::Discarded),
-        (known, 0, SEQ, Verdict::Acked),
-        (known, 0, NEXT, Verdict::Installed),
-        (known, 0, SEQ, Verdict::Discarded),
-    ] {
-        let (verdict, count) = receive_one(rt.alloc(), &mut db, key, age, seq)?;
-        assert_eq!(rt; (verdict, count), (want, 65_534));
-    }
+    let mut db = filled(alloc, 65_533)?;
+    let db = &mut db;
+    checks.that(
+        gives(alloc, db, KEY, 0, SEQ, Verdict::Installed)?,
+        "the last one that is taken",
+    );
+    checks.that(
+        gives(alloc, db, other, 0, SEQ, Verdict::Discarded)?,
+        "one more",
+    );
+    checks.that(
+        gives(alloc, db, other, 3_600, SEQ, Verdict::Discarded)?,
+        "one more, too old",
+    );
+    checks.that(
+        gives(alloc, db, known, 0, SEQ, Verdict::Acked)?,
+        "the same instance",
+    );
+    checks.that(
+        gives(alloc, db, known, 0, NEXT, Verdict::Installed)?,
+        "a newer instance",
+    );
+    checks.that(
+        gives(alloc, db, known, 0, SEQ, Verdict::Discarded)?,
+        "an older instance",
+    );
     Ok(())
 }
 
-#[test]
-fn lists_are_maps_of_their_own(rt: HostRuntime) -> Result<(), Fail> {
-    let other = LsaKey { id: 3, ..KEY };
-    let mut lists = four_lists(rt.alloc(), 0b1011)?;
-    lists.put(1, other, 92)?;
+/// Each port has a list of its own.
+fn lists_are_maps(alloc: Global, checks: &mut Checks) -> Result<(), NoMemory> {
+    let mut lists = four_lists(alloc, 0b1011)?;
+    lists.put(1, OTHER, 92)?;
     lists.put(0, KEY, 95)?;
-    assert_eq!(rt; ticks(&lists, &KEY), [Some(95), Some(90), None, Some(90)]);
-    assert_eq!(rt; lists.keys(1)?.as_slice(), [other, KEY].as_slice());
-    assert_eq!(rt; lists.due(1, 94)?.len(), 0);
-    assert_eq!(rt; lists.due(1, 95)?.as_slice(), [KEY].as_slice());
-    assert_eq!(rt; lists.due(1, 97)?.as_slice(), [other, KEY].as_slice());
-    let copy = lists.fork(rt.alloc())?;
-    assert!(rt; copy.same(&lists));
+    checks.that(
+        are_ticks(&lists, &KEY, [95, 90, 0, 90]),
+        "ticks that are put",
+    );
+    are_due(&lists, checks)?;
+    let copy = lists.fork(alloc)?;
+    checks.that(copy.same(&lists), "a copy of lists");
     lists.take(1, &KEY);
-    assert!(rt; !copy.same(&lists));
-    assert_eq!(rt; ticks(&lists, &KEY), [Some(95), None, None, Some(90)]);
-    lists.take_all(&KEY);
-    assert_eq!(rt; ticks(&lists, &KEY), [None, None, None, None]);
-    assert_eq!(rt; ticks(&lists, &other), [None, Some(92), None, None]);
-    lists.empty(1);
-    assert_eq!(rt; ticks(&lists, &other), [None, None, None, None]);
+    checks.that(!copy.same(&lists), "lists without an LSA");
+    are_taken(&mut lists, checks);
     Ok(())
 }
 
-#[test]
-fn an_lsa_of_the_database_is_flooded(rt: HostRuntime) -> Result<(), Fail> {
-    let mut db = Lsdb::new(rt.alloc());
-    db.install(lsa(rt.alloc(), KEY, 0, SEQ)?, 50, false, false)?;
-    let mut lists = four_lists(rt.alloc(), 0b1010)?;
-    flood(&mut db, &mut lists, 0, KEY, 99)?;
-    assert_eq!(rt; db.get(&KEY).ok_or("no LSA")?.sent, None);
-    flood(&mut db, &mut lists, FULL, KEY, NOW)?;
-    assert_eq!(rt; db.get(&KEY).ok_or("no LSA")?.sent, Some(NOW));
-    assert_eq!(rt;
-        ticks(&lists, &KEY),
-        [Some(NOW), Some(NOW), Some(NOW), Some(BEFORE)]
+/// What is due on port 1.
+fn are_due(lists: &Lists, checks: &mut Checks) -> Result<(), NoMemory>
+    requires { length lists.now ≡ 4 }
+{
+    checks.that(
+        lists.keys(1)?.as_slice() == [OTHER, KEY].as_slice(),
+        "names of a list",
+    );
+    checks.that(lists.due(1, 94)?.is_empty(), "none is due");
+    checks.that(
+        lists.due(1, 95)?.as_slice() == [KEY].as_slice(),
+        "one is due",
+    );
+    checks.that(
+        lists.due(1, 97)?.as_slice() == [OTHER, KEY].as_slice(),
+        "two are due",
+    );
+    Ok(())
+}
+
+/// LSAs are taken from one list and from all, and a list is emptied.
+fn are_taken(lists: &mut Lists, checks: &mut Checks)
+    requires { length lists.old ≡ 4 }
+{
+    checks.that(
+        are_ticks(lists, &KEY, [95, 0, 0, 90]),
+        "it is taken from one list",
+    );
+    lists.take_all(&KEY);
+    checks.that(are_ticks(lists, &KEY, [0, 0, 0, 0]), "it is taken from all");
+    checks.that(
+        are_ticks(lists, &OTHER, [0, 92, 0, 0]),
+        "the other one stays",
+    );
+    lists.empty(1);
+    checks.that(
+        are_ticks(lists, &OTHER, [0, 0, 0, 0]),
+        "the list is emptied",
+    );
+}
+
+/// Whether the LSA of the database was last sent at this tick; 0 is never.
+fn is_sent(db: &Lsdb, tick: u32) -> bool {
+    match db.get(&KEY) {
+        Some(kept) => kept.sent.unwrap_or(0) == tick,
+        None => false,
+    }
+}
+
+/// An LSA of the database is flooded on no port, and on the full ones.
+fn is_flooded(alloc: Global, db: &mut Lsdb, checks: &mut Checks) -> Result<(), NoMemory> {
+    db.install(lsa(alloc, KEY, 0, SEQ)?, 50, false, false)?;
+    let mut lists = four_lists(alloc, 0b1010)?;
+    flood(db, &mut lists, 0, KEY, 99)?;
+    checks.that(is_sent(db, 0), "it is flooded on no port");
+    flood(db, &mut lists, FULL, KEY, NOW)?;
+    checks.that(is_sent(db, NOW), "it is flooded");
+    checks.that(
+        are_ticks(&lists, &KEY, [NOW, NOW, NOW, BEFORE]),
+        "it is on the lists",
     );
     Ok(())
 }

@@ -1,11 +1,13 @@
 //! Packets and LSAs from outside: two are worked by hand from RFC 2328, the others were made by a
 //! program of its own in Python.
 
+use crate::checks::Checks;
 use dn_guest::Bytes;
 use ospf_wire::{
-    Body, Hello, Ids, Lsa, LsaHeader, MAX_SEQUENCE_NUMBER, Packet, decode, encode, fletcher_ok,
+    Body, Hello, Ids, MAX_SEQUENCE_NUMBER, Lsa, LsaHeader, NoMemory, Packet, decode, encode, fletcher_ok,
     fletcher_set, ip_sum, newer,
 };
+use std::alloc::Global;
 use std::cmp::Ordering;
 use std::test::Fail;
 
@@ -34,24 +36,53 @@ const ROUTER_LSA: LsaHeader = LsaHeader {
 };
 
 #[test]
-fn a_hello_has_its_fields(rt: HostRuntime) -> Result<(), Fail> {
-    let packet = decode(rt.alloc(), AUTHENTICATED)?.ok_or("no packet")?;
-    assert_eq!(rt; (packet.router, packet.area), (0x0a00_0001, 9));
-    let Body::Hello(hello) = packet.body else {
-        assert!(rt; false, "no Hello");
-        return Ok(());
-    };
-    assert_eq!(rt;
-        (hello.mask, hello.interval, hello.options, hello.priority),
-        (0, 10, 2, 0)
-    );
-    assert_eq!(rt; (hello.dead, hello.dr, hello.bdr), (40, 0, 0));
-    assert_eq!(rt; hello.neighbours.as_slice(), [7, 0x0102_0304].as_slice());
+fn ospf_packets(rt: HostRuntime) -> Result<(), Fail> {
+    let mut checks = Checks::new();
+    a_hello_has_its_fields(rt.alloc(), &mut checks)?;
+    a_hello_is_written(rt.alloc(), &mut checks)?;
+    an_acknowledgement_has_its_headers(rt.alloc(), &mut checks)?;
+    the_checksum_is_written(rt.alloc(), &mut checks)?;
+    is_newer(ROUTER_LSA, &mut checks);
+    checks.end()?;
     Ok(())
 }
 
-#[test]
-fn a_hello_that_is_made_by_hand_is_written(rt: HostRuntime) -> Result<(), Fail> {
+/// A Hello that is read has its fields.
+fn a_hello_has_its_fields(alloc: Global, checks: &mut Checks) -> Result<(), NoMemory> {
+    match decode(alloc, AUTHENTICATED)? {
+        Some(packet) => see_packet(&packet, checks),
+        None => checks.that(false, "a Hello is no packet"),
+    }
+    Ok(())
+}
+
+fn see_packet(packet: &Packet, checks: &mut Checks) {
+    checks.that(packet.router == 0x0a00_0001, "the router of a packet");
+    checks.that(packet.area == 9, "the area of a packet");
+    match &packet.body {
+        Body::Hello(hello) => see_hello(hello, checks),
+        Body::Update(_) => checks.that(false, "a Hello is an Update"),
+        Body::Ack(_) => checks.that(false, "a Hello is an Acknowledgement"),
+    }
+}
+
+fn see_hello(hello: &Hello, checks: &mut Checks) {
+    checks.that(hello.mask == 0, "the mask of a Hello");
+    checks.that(hello.interval == 10, "the interval of a Hello");
+    checks.that(hello.options == 2, "the options of a Hello");
+    checks.that(hello.priority == 0, "the priority of a Hello");
+    checks.that(hello.dead == 40, "the dead interval of a Hello");
+    checks.that(hello.dr == 0, "the designated router of a Hello");
+    checks.that(hello.bdr == 0, "the backup designated router of a Hello");
+    let neighbours = hello.neighbours.as_slice();
+    checks.that(
+        neighbours == [7, 0x0102_0304].as_slice(),
+        "the neighbours of a Hello",
+    );
+}
+
+/// A Hello that is made by hand is written.
+fn a_hello_is_written(alloc: Global, checks: &mut Checks) -> Result<(), NoMemory> {
     let hello = Hello {
         mask: 0,
         interval: 10,
@@ -60,92 +91,107 @@ fn a_hello_that_is_made_by_hand_is_written(rt: HostRuntime) -> Result<(), Fail> 
         dead: 40,
         dr: 0,
         bdr: 0,
-        neighbours: Ids::from_vec(Vec::new(rt.alloc())),
+        neighbours: Ids::from_vec(Vec::new(alloc)),
     };
     let packet = Packet {
         router: 1,
         area: 0,
         body: Body::Hello(hello),
     };
-    let mut out = Bytes::new(rt.alloc());
-    encode(rt.alloc(), &packet, &mut out)?;
-    assert_eq!(rt; out.as_slice(), HELLO);
-    assert_eq!(rt; ip_sum(HELLO), 0);
+    let mut out = Bytes::new(alloc);
+    encode(alloc, &packet, &mut out)?;
+    checks.that(out.as_slice() == HELLO, "the bytes of a Hello");
+    checks.that(ip_sum(HELLO) == 0, "the checksum of a packet");
     Ok(())
 }
 
-#[test]
-fn an_acknowledgement_has_its_headers(rt: HostRuntime) -> Result<(), Fail> {
-    let packet = decode(rt.alloc(), ACKNOWLEDGEMENT)?.ok_or("no packet")?;
-    let Body::Ack(headers) = packet.body else {
-        assert!(rt; false, "no Acknowledgement");
-        return Ok(());
-    };
-    assert_eq!(rt; headers.as_slice().len(), 2);
-    assert_eq!(rt; headers.as_slice()[0], ROUTER_LSA);
-    assert_eq!(rt; headers.as_slice()[1].seq, MAX_SEQUENCE_NUMBER);
+/// An Acknowledgement that is read has its headers.
+fn an_acknowledgement_has_its_headers(alloc: Global, checks: &mut Checks) -> Result<(), NoMemory> {
+    match decode(alloc, ACKNOWLEDGEMENT)? {
+        Some(packet) => see_acknowledgement(&packet.body, checks),
+        None => checks.that(false, "an Acknowledgement is no packet"),
+    }
     Ok(())
 }
 
-#[test]
-fn the_checksum_of_a_router_lsa_is_written(rt: HostRuntime) -> Result<(), Fail> {
-    let mut lsa = Lsa {
-        head: LsaHeader {
-            sum: 0,
-            ..ROUTER_LSA
-        },
-        body: Bytes::from_slice(rt.alloc(), &[0, 0, 0, 0])?,
+fn see_acknowledgement(body: &Body, checks: &mut Checks) {
+    match body {
+        Body::Ack(headers) => see_headers(headers.as_slice(), checks),
+        Body::Hello(_) => checks.that(false, "an Acknowledgement is a Hello"),
+        Body::Update(_) => checks.that(false, "an Acknowledgement is an Update"),
+    }
+}
+
+fn see_headers(headers: &[LsaHeader], checks: &mut Checks) {
+    match headers {
+        [first, second] => {
+            checks.that(*first == ROUTER_LSA, "the first header");
+            checks.that(second.seq == MAX_SEQUENCE_NUMBER, "the second header");
+        }
+        _ => checks.that(false, "there are two headers"),
+    }
+}
+
+/// The checksum of a router-LSA is wrong, and is set.
+fn the_checksum_is_written(alloc: Global, checks: &mut Checks) -> Result<(), NoMemory> {
+    let head = LsaHeader {
+        sum: 0,
+        ..ROUTER_LSA
     };
-    assert!(rt; !fletcher_ok(&lsa));
+    let body = Bytes::from_slice(alloc, &[0, 0, 0, 0])?;
+    let mut lsa = Lsa { head, body };
+    checks.that(!fletcher_ok(&lsa), "a wrong checksum");
     fletcher_set(&mut lsa);
-    assert_eq!(rt; lsa.head, ROUTER_LSA);
-    assert!(rt; fletcher_ok(&lsa));
+    checks.that(lsa.head == ROUTER_LSA, "the checksum that is set");
+    checks.that(fletcher_ok(&lsa), "the right checksum");
     let copy = lsa.clone()?;
-    assert!(rt; copy == lsa);
+    checks.that(copy == lsa, "a copy of an LSA");
     Ok(())
 }
 
-#[test]
-fn the_newer_instance(rt: HostRuntime) {
-    let first = ROUTER_LSA;
-    // Of each pair of headers the first is the newer.
-    let pairs = [
-        (LsaHeader { seq: 0, ..first }, first),
-        (
-            LsaHeader {
-                seq: MAX_SEQUENCE_NUMBER,
-                ..first
-            },
-            LsaHeader {
-                seq: 0xffff_ffff,
-                ..first
-            },
-        ),
-        (
-            first,
-            LsaHeader {
-                sum: 0x6ff0,
-                ..first
-            },
-        ),
-        (
-            LsaHeader {
-                age: 3_600,
-                ..first
-            },
-            LsaHeader {
+/// Which of two instances is the newer, both ways; `first` has age 0 and the first sequence number.
+fn is_newer(first: LsaHeader, checks: &mut Checks) {
+    let last = LsaHeader {
+        seq: MAX_SEQUENCE_NUMBER,
+        ..first
+    };
+    let one_less = LsaHeader {
+        seq: 0xffff_ffff,
+        ..first
+    };
+    let other_sum = LsaHeader {
+        sum: 0x6ff0,
+        ..first
+    };
+    let ends = LsaHeader {
+        age: 3_600,
+        ..first
+    };
+    checks.that(
+        wins(&LsaHeader { seq: 0, ..first }, &first),
+        "sequence numbers are signed",
+    );
+    checks.that(wins(&last, &one_less), "the greatest sequence number");
+    checks.that(wins(&first, &other_sum), "the greater checksum");
+    checks.that(
+        wins(
+            &ends,
+            &LsaHeader {
                 age: 3_599,
                 ..first
             },
         ),
-        (first, LsaHeader { age: 901, ..first }),
-    ];
-    for (one, other) in pairs {
-        assert_eq!(rt; newer(&one, &other), Ordering::Greater);
-        assert_eq!(rt; newer(&other, &one), Ordering::Less);
-    }
-    assert_eq!(rt;
-        newer(&first, &LsaHeader { age: 900, ..first }),
-        Ordering::Equal
+        "the greatest age",
     );
+    checks.that(
+        wins(&first, &LsaHeader { age: 901, ..first }),
+        "ages 901 apart",
+    );
+    let same = newer(&first, &LsaHeader { age: 900, ..first });
+    checks.that(same == Ordering::Equal, "ages 900 apart");
+}
+
+/// Whether the first is the newer, and the other the older.
+fn wins(one: &LsaHeader, other: &LsaHeader) -> bool {
+    newer(one, other) == Ordering::Greater && newer(other, one) == Ordering::Less
 }

@@ -1,7 +1,9 @@
 //! Messages from outside: those of the standard's figure, worked by hand.
 
+use crate::checks::Checks;
 use dn_guest::Bytes;
-use rip_wire::{Entries, Entry, Message, REQUEST, RESPONSE, decode, encode};
+use rip_wire::{Entries, Entry, Message, NoMemory, REQUEST, RESPONSE, decode, encode};
+use std::alloc::Global;
 use std::test::Fail;
 
 /// The request for the whole table (RFC 2453 section 3.9.1).
@@ -27,50 +29,83 @@ const ROUTE: Entry = Entry {
 };
 
 #[test]
-fn the_request_for_the_whole_table(rt: HostRuntime) -> Result<(), Fail> {
-    let found = decode(rt.alloc(), WHOLE_TABLE)?.ok_or("no message")?;
-    assert_eq!(rt; found.command, REQUEST);
-    let entry = Entry {
+fn rip_messages(rt: HostRuntime) -> Result<(), Fail> {
+    let mut checks = Checks::new();
+    let asked = Entry {
         family: 0,
-        tag: 0,
         address: 0,
         mask: 0,
-        hop: 0,
         metric: 16,
+        ..ROUTE
     };
-    assert_eq!(rt; found.entries.as_slice(), [entry].as_slice());
-    let mut out = Bytes::new(rt.alloc());
-    encode(&found, &mut out)?;
-    assert_eq!(rt; out.as_slice(), WHOLE_TABLE);
-    Ok(())
-}
-
-#[test]
-fn a_response_with_one_route(rt: HostRuntime) -> Result<(), Fail> {
-    let message = Message {
-        command: RESPONSE,
-        entries: Entries::from_vec(Vec::from_slice(rt.alloc(), &[ROUTE])?),
-    };
-    let mut out = Bytes::from_slice(rt.alloc(), &[7])?;
-    encode(&message, &mut out)?;
-    assert_eq!(rt; out.as_slice()[0], 7);
-    assert_eq!(rt; &out.as_slice()[1..], ONE_ROUTE);
-    let found = decode(rt.alloc(), ONE_ROUTE)?.ok_or("no message")?;
-    assert_eq!(rt; found.command, RESPONSE);
-    let entries = found.entries.into_vec();
-    assert_eq!(rt; entries.as_slice(), [ROUTE].as_slice());
-    Ok(())
-}
-
-#[test]
-fn every_field_is_read(rt: HostRuntime) -> Result<(), Fail> {
-    let found = decode(rt.alloc(), ALL_FIELDS)?.ok_or("no message")?;
-    let entry = Entry {
+    let full = Entry {
         tag: 0x0102,
         hop: 0x0a09_0007,
         metric: 0x0102_0304,
         ..ROUTE
     };
-    assert_eq!(rt; found.entries.as_slice(), [entry].as_slice());
+    reads(rt.alloc(), WHOLE_TABLE, REQUEST, asked, &mut checks)?;
+    reads(rt.alloc(), ONE_ROUTE, RESPONSE, ROUTE, &mut checks)?;
+    reads(rt.alloc(), ALL_FIELDS, RESPONSE, full, &mut checks)?;
+    a_request_is_written_again(rt.alloc(), &mut checks)?;
+    a_response_is_written(rt.alloc(), &mut checks)?;
+    checks.end()?;
+    Ok(())
+}
+
+/// These bytes are a message with this command and one entry.
+fn reads(
+    alloc: Global,
+    bytes: &[u8],
+    command: u8,
+    entry: Entry,
+    checks: &mut Checks,
+) -> Result<(), NoMemory> {
+    match decode(alloc, bytes)? {
+        Some(message) => {
+            checks.that(message.command == command, "the command of a message");
+            checks.that(
+                message.entries.as_slice() == [entry].as_slice(),
+                "its entry",
+            );
+        }
+        None => checks.that(false, "it is no message"),
+    }
+    Ok(())
+}
+
+/// The request for the whole table is written as it was read.
+fn a_request_is_written_again(alloc: Global, checks: &mut Checks) -> Result<(), NoMemory> {
+    match decode(alloc, WHOLE_TABLE)? {
+        Some(message) => {
+            let mut out = Bytes::new(alloc);
+            encode(&message, &mut out)?;
+            checks.that(out.as_slice() == WHOLE_TABLE, "the bytes of a request");
+        }
+        None => checks.that(false, "it is no message"),
+    }
+    Ok(())
+}
+
+/// A response is written behind what is there.
+fn a_response_is_written(alloc: Global, checks: &mut Checks) -> Result<(), NoMemory> {
+    let message = Message {
+        command: RESPONSE,
+        entries: Entries::from_vec(Vec::from_slice(alloc, &[ROUTE])?),
+    };
+    let mut out = Bytes::from_slice(alloc, &[7])?;
+    encode(&message, &mut out)?;
+    match out.as_slice() {
+        [first, rest @ ..] => checks.that(
+            *first == 7 && rest == ONE_ROUTE,
+            "the bytes of a response",
+        ),
+        [] => checks.that(false, "there are bytes"),
+    }
+    let entries = message.entries.into_vec();
+    checks.that(
+        entries.as_slice() == [ROUTE].as_slice(),
+        "the entries of a message",
+    );
     Ok(())
 }

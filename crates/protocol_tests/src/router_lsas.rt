@@ -1,6 +1,10 @@
 //! Bodies of router-LSAs, made by hand from RFC 2328 appendix A.4.2.
 
-use ospf_wire::{RouterLink, router_body};
+ghost use Rattle.std.specs.Prelude.{◌≤◌, length};
+
+use crate::checks::Checks;
+use ospf_wire::{NoMemory, RouterLink, router_body};
+use std::alloc::Global;
 use std::test::Fail;
 
 /// A point-to-point link to router 2.
@@ -25,9 +29,23 @@ const BOTH: &[u8] =
 
 #[test]
 fn links_are_written_without_flags(rt: HostRuntime) -> Result<(), Fail> {
-    let body = router_body(rt.alloc(), &[TO_TWO, STUB])?;
-    assert_eq!(rt; body.as_slice(), BOTH);
-    let none = router_body(rt.alloc(), &[])?;
-    assert_eq!(rt; none.as_slice(), b"\x00\x00\x00\x00".as_slice());
+    let mut checks = Checks::new();
+    writes(rt.alloc(), &[TO_TWO, STUB], BOTH, &mut checks)?;
+    writes(rt.alloc(), &[], &[0, 0, 0, 0], &mut checks)?;
+    checks.end()?;
+    Ok(())
+}
+
+/// The body of these links has these bytes.
+fn writes(
+    alloc: Global,
+    links: &[RouterLink],
+    bytes: &[u8],
+    checks: &mut Checks,
+) -> Result<(), NoMemory>
+    requires { length links.now ≤ 65535 }
+{
+    let body = router_body(alloc, links)?;
+    checks.that(body.as_slice() == bytes, "the body of a router-LSA");
     Ok(())
 }
