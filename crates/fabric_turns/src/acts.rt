@@ -1,6 +1,6 @@
 //! Steps of a fabric. Each tests what its call asks, and answers whether it could be taken.
 
-ghost use Rattle.std.specs.Prelude.{◌≡◌, length, nat_lt, IfOk};
+ghost use Rattle.std.specs.Prelude.{◌≡◌, ◌<◌, length, nat_lt, IfOk};
 ghost use Rattle.dn_world.specs.Steps.{is_injectable};
 
 use crate::shown::push_number;
@@ -49,6 +49,7 @@ fn beacon(fabric: &mut Fabric<Flood>) -> Result<bool, NoMemory> {
 /// Whether the input may come from outside to the router.
 #[tactic(auto, unfolding(dn_world::specs::Steps::is_injectable))]
 fn is_asked(alloc: Global, header: &Header, router: u16, input: &Input) -> Result<bool, NoMemory>
+    requires { router < length header.now.routers }
     ensures { IfOk result (λ asked. asked ≡ is_injectable header.now router input.now) }
 {
     match input {
