@@ -46,7 +46,9 @@ fn header_of(line: &mut Line<'_>, length: u16) -> LsaHeader
         kind: line.byte("type", 1),
         id: line.number("id", 5),
         router: line.number("adv", 5),
-        seq: line.some("seq", 16, u32::MAX).unwrap_or(INITIAL_SEQUENCE_NUMBER),
+        seq: line
+            .some("seq", 16, u32::MAX)
+            .unwrap_or(INITIAL_SEQUENCE_NUMBER),
         sum: 0,
         length,
     }

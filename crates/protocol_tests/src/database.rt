@@ -5,7 +5,7 @@ ghost use Rattle.std.specs.Prelude.{◌≡◌, IfOk, length};
 use crate::checks::Checks;
 use dn_guest::Bytes;
 use ospf_lsdb::{Kept, LsaKey, Lsdb};
-use ospf_wire::{INITIAL_SEQUENCE_NUMBER, MAX_SEQUENCE_NUMBER, Lsa, LsaHeader, NoMemory};
+use ospf_wire::{INITIAL_SEQUENCE_NUMBER, Lsa, LsaHeader, MAX_SEQUENCE_NUMBER, NoMemory};
 use std::alloc::Global;
 use std::test::Fail;
 
@@ -98,12 +98,18 @@ fn begins_and_goes_on(
 ) -> Result<(), NoMemory> {
     checks.that(originates(alloc, database, 7)?, "the own LSA is originated");
     let head = head_of(database, &OWN);
-    checks.that(head.seq == INITIAL_SEQUENCE_NUMBER, "the first sequence number");
+    checks.that(
+        head.seq == INITIAL_SEQUENCE_NUMBER,
+        "the first sequence number",
+    );
     checks.that(head.sum == 0x6ff1, "the checksum of the own LSA");
     checks.that(head.length == 24, "the length of the own LSA");
     checks.that(originates(alloc, database, 12)?, "the own LSA goes on");
     let head = head_of(database, &OWN);
-    checks.that(head.seq == INITIAL_SEQUENCE_NUMBER + 1, "the second sequence number");
+    checks.that(
+        head.seq == INITIAL_SEQUENCE_NUMBER + 1,
+        "the second sequence number",
+    );
     checks.that(
         moments_of(database, &OWN) == (12, false, None),
         "when it was originated",
@@ -131,8 +137,18 @@ fn ages_reach_the_end_once(
     database: &mut Lsdb,
     checks: &mut Checks,
 ) -> Result<(), NoMemory> {
-    database.install(lsa(alloc, OTHER, 3_590, INITIAL_SEQUENCE_NUMBER), 100, true, false)?;
-    database.install(lsa(alloc, OWN, 0, INITIAL_SEQUENCE_NUMBER), 100, false, false)?;
+    database.install(
+        lsa(alloc, OTHER, 3_590, INITIAL_SEQUENCE_NUMBER),
+        100,
+        true,
+        false,
+    )?;
+    database.install(
+        lsa(alloc, OWN, 0, INITIAL_SEQUENCE_NUMBER),
+        100,
+        false,
+        false,
+    )?;
     checks.that(database.age(&OTHER, 109) == Some(3_599), "an age of 3,599");
     ends(database, checks)?;
     checks.that(
@@ -161,7 +177,12 @@ fn is_sent_flushed_and_dropped(
     database: &mut Lsdb,
     checks: &mut Checks,
 ) -> Result<(), NoMemory> {
-    database.install(lsa(alloc, OTHER, 0, INITIAL_SEQUENCE_NUMBER), 0, true, false)?;
+    database.install(
+        lsa(alloc, OTHER, 0, INITIAL_SEQUENCE_NUMBER),
+        0,
+        true,
+        false,
+    )?;
     database.install(lsa(alloc, OWN, 0, INITIAL_SEQUENCE_NUMBER), 0, true, false)?;
     database.note_sent(&OTHER, 4);
     database.flush(&OTHER, 5);

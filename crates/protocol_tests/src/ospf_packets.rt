@@ -4,8 +4,8 @@
 use crate::checks::Checks;
 use dn_guest::Bytes;
 use ospf_wire::{
-    Body, Hello, Ids, MAX_SEQUENCE_NUMBER, Lsa, LsaHeader, NoMemory, Packet, decode, encode, fletcher_ok,
-    fletcher_set, ip_sum, newer,
+    Body, Hello, Ids, Lsa, LsaHeader, MAX_SEQUENCE_NUMBER, NoMemory, Packet, decode, encode,
+    fletcher_ok, fletcher_set, ip_sum, newer,
 };
 use std::alloc::Global;
 use std::cmp::Ordering;
