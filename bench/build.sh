@@ -15,10 +15,25 @@ finish() {
 }
 trap finish EXIT
 
-# build_and_run NAME 'CRATES' 'CRATES OF THE KIT': the program of bench/NAME.txt, on this call's input. What `rt` and
-# the program print is in $work/log then, and the program is $work/crates/NAME/out/NAME.
+# below CRATES..: these crates and all that they stand on, by crates.txt.
+below() {
+    local names=$* before= name
+    while [ "$names" != "$before" ]; do
+        before=$names
+        names=$(for name in $before; do
+            echo "$name"
+            sed -n "s/^$name://p" crates.txt | tr ' ' '\n' | while read -r it; do [ -d "crates/$it" ] && echo "$it"; done
+        done | grep . | sort -u | xargs)
+    done
+    echo "$names"
+}
+
+# build_and_run NAME 'CRATES' 'CRATES OF THE KIT': the program of bench/NAME.txt over these crates and those below them,
+# on this call's input. What `rt` and the program print is in $work/log then, and the program is
+# $work/crates/NAME/out/NAME.
 build_and_run() {
-    local name=$1 crates=$2 kit=$3 crate
+    local name=$1 crates kit=$3 crate
+    crates=$(below $2)
     mkdir -p "$work/crates/$name/src"
     for crate in $crates; do
         [ -e "$work/crates/$crate" ] || cp -a "crates/$crate" "$work/crates/"

@@ -15,7 +15,7 @@ rates() {
     }'
 }
 
-calls='dn_guest ospf_wire ospf_lsdb ospf_flood ospf_spf'
+calls='ospf_flood ospf_spf'
 build_and_run ospf_speed "$calls" 'hex anyhow' < <(python3 bench/ospf_packets.py)
 rates 'newer|decode|install|age|receive|routes'
 build_and_run ospf_steps "$calls ospf_router" anyhow < /dev/null
