@@ -18,18 +18,19 @@ fn steps_of(alloc: Global, header: &Header, text: &[u8]) -> Result<Vec<Step>, No
     }
 }
 
-/// The text of the journal that is read of a text, behind a line.
-fn again(alloc: Global, text: &[u8]) -> Result<Bytes, NoMemory> {
-    let case = case_of(alloc, PAIR)?;
-    let steps = steps_of(alloc, &case.header, text)?;
+/// The text of the journal that is read of a text, behind a line; that line alone if it is none.
+fn again(alloc: Global, header: &Header, text: &[u8]) -> Result<Bytes, NoMemory> {
     let mut out = Bytes::from_slice(alloc, b"before\n")?;
-    write_journal(&case.header, steps.as_slice(), &mut out)?;
+    if let Ok(steps) = read_journal(alloc, header, text) {
+        write_journal(header, steps.as_slice(), &mut out)?;
+    }
     Ok(out)
 }
 
 /// Whether the journal that is read of a text is written again.
 fn is_again(alloc: Global, text: &[u8]) -> Result<bool, NoMemory> {
-    let out = again(alloc, text)?;
+    let case = case_of(alloc, PAIR)?;
+    let out = again(alloc, &case.header, text)?;
     Ok(out.as_slice().strip_prefix(b"before\n") == Some(text))
 }
 
