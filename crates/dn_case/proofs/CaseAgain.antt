@@ -1,5 +1,6 @@
--- The spelling of a case that meets the rules is read again.
+-- The lines of a case that meets the rules are read again, in each order of the prefix lines.
 use Rattle.std.proofs.Common.{◌≡◌, ℕ, ◌≤◌, true, List, [], ◌∷◌, ◌++◌, length, map, refl, sym, subst}
+use Rattle.dn_model.specs.declared.router.Prefix.{Prefix as PrefixDef}
 use Rattle.dn_model.specs.declared.link.Link.{Link as LinkDef}
 use Rattle.dn_model.specs.declared.feed.External.{External as ExternalDef}
 use Rattle.dn_model.specs.Cases.{Recording, AreRouters, AreLinks, IsHeading, IsRecording}
@@ -8,10 +9,12 @@ use Rattle.dn_case.specs.declared.place.Place.{Place}
 use Rattle.dn_case.specs.declared.place.Place.TheVariants as place
 use Rattle.dn_case.specs.Shapes.{Line, Feed, End}
 use Rattle.dn_case.specs.Standings.{may_follow, start}
-use Rattle.dn_case.specs.Spelling.{spelled, number_lines, router_line, link_line, external_line, header_lines, lines_of}
+use Rattle.dn_case.specs.Spelling.{spelled, number_lines, router_line, link_line, external_line, header_lines_with, lines_with, lines_of}
+use Rattle.dn_case.specs.CaseTexts.{IsInterleaving, prefixes_of, numbered_lines, case_lines}
 use Rattle.dn_case.specs.Reading.{Leads, IsCaseText}
 use Rattle.dn_case.proofs.RoundTrip.{reads_on, numbered_at, numbers_lead, at, bares, length_bares, are_bare, routers_lead, not_none, behind_links, lines_of_bare, links_lead, with_feed, behind_feed, externals_lead}
 use Rattle.dn_case.proofs.PrefixLeads.{lines_join, prefixes_lead}
+use Rattle.dn_case.proofs.Interleavings.{in_order, is_in_order, lines_in_order}
 
 abbrev headed : Place → Recording → Standing
 headed p c = record { place = p; period = c.header.period; groups = c.header.groups; seed = c.header.seed; routers = c.header.routers; links = c.header.links; feed = [] }
@@ -27,14 +30,14 @@ feed_follows [] = refl
 feed_follows (l ∷ links) = refl
 
 -- the header's lines lead to the place q, behind which the line of the feed may stand
-record HeaderLeads (c : Recording) : Type 0 where
+record HeaderLeads (c : Recording) (lines : List Line) : Type 0 where
   q : Place
   follows : may_follow q place.Feed ≡ true
-  leads : Leads start (map spelled (header_lines c.header)) (headed q c)
+  leads : Leads start (map spelled (header_lines_with c.header lines)) (headed q c)
 
-header_leads : (c : Recording) → IsHeading c.header → HeaderLeads c
+header_leads : (c : Recording) (xs : List (ℕ × PrefixDef)) → IsHeading c.header → IsInterleaving (prefixes_of c.header.routers) xs → HeaderLeads c (numbered_lines c.header.routers xs)
 unfolding may_follow
-header_leads c h =
+header_leads c xs h order =
     let k = c.header in
     let rs = k.routers in
     let bare_rs : AreRouters [] (bares rs) = are_bare [] [] rs refl h.routers in
@@ -46,7 +49,7 @@ header_leads c h =
     let s2 : Standing = record { place = p; period = k.period; groups = k.groups; seed = k.seed; routers = bares rs; links = k.links; feed = [] } in
     let linked : Leads s1 (map spelled (map (link_line (bares rs)) k.links)) s2 = links_lead place.Router s1 [] k.links refl bare_rs links h.few_links in
     let linked' : Leads s1 (map spelled (map (link_line rs) k.links)) s2 = subst (λ (l : List Line). Leads s1 (map spelled l) s2) (lines_of_bare rs k.links) linked in
-    let prefixes = prefixes_lead p s2 [] rs (prefix_follows k.links) (feed_follows k.links) h.routers in
+    let prefixes = prefixes_lead p s2 rs xs (prefix_follows k.links) (feed_follows k.links) h.routers order in
     record {
       q = prefixes.q;
       follows = prefixes.feed;
@@ -78,13 +81,20 @@ feed_leads q c m h =
     let externals = externals_lead place.Feed t [] c.feed refl h.header h.feed in
     (t, reads_on s Feed tt m refl, lines_join (map (external_line c.header.routers) c.feed) (End ∷ []) t u (ended c) externals (end_leads c))
 
--- The lines of a case that meets the rules are a case text of that case.
-pub lines_again : (c : Recording) → IsRecording c → IsCaseText (map spelled (lines_of c)) c
-lines_again c h =
-    let header = header_leads c h.header in
+-- The lines of a case that meets the rules are a case text of that case, in each order of the prefix lines.
+pub lines_taken : (c : Recording) (xs : List (ℕ × PrefixDef)) → IsRecording c → IsInterleaving (prefixes_of c.header.routers) xs → IsCaseText (map spelled (case_lines c xs)) c
+lines_taken c xs h order =
+    let lines = numbered_lines c.header.routers xs in
+    let header = header_leads c xs h.header order in
     record {
       last = ended c;
-      leads = lines_join (header_lines c.header) _ start (headed header.q c) (ended c) header.leads (feed_leads header.q c header.follows h);
+      leads = lines_join (header_lines_with c.header lines) _ start (headed header.q c) (ended c) header.leads (feed_leads header.q c header.follows h);
       ends = refl;
       says = refl;
     }
+
+-- So they are in the order of the routers.
+pub lines_again : (c : Recording) → IsRecording c → IsCaseText (map spelled (lines_of c)) c
+lines_again c h =
+    subst (λ (lines : List Line). IsCaseText (map spelled (lines_with c lines)) c) (lines_in_order c.header.routers)
+    (lines_taken c (in_order 0 c.header.routers) h (is_in_order c.header.routers))

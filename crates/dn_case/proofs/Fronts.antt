@@ -7,17 +7,20 @@ use Rattle.dn_model.specs.declared.router.Kind.TheVariants as kind
 use Rattle.dn_model.specs.declared.router.RouterDef.{RouterDef}
 use Rattle.dn_text.specs.Lines.{lines}
 use Rattle.dn_case.specs.declared.shape.Net.{Net}
+use Rattle.dn_model.specs.declared.router.Prefix.{Prefix as PrefixDef}
 use Rattle.dn_model.specs.declared.link.Link.{Link as LinkDef}
 use Rattle.dn_model.specs.declared.feed.External.{External as ExternalDef}
 use Rattle.dn_model.specs.Routers.{name_at}
 use Rattle.dn_model.specs.Links.{ports_of}
 use Rattle.dn_model.specs.Cases.{Heading, Recording, AreRouters, AreLinks, IsHeading, AreExternals, IsRecording}
 use Rattle.dn_case.specs.Shapes.{Cmd, Down, Up, Line, Version, Period, Groups, Seed, Router, Link, Prefix, Feed, External, End}
-use Rattle.dn_case.specs.Spelling.{digits, kind_word, address_text, net_text, fields_of, spelled, AreSmall, IsSpellable, router_line, link_line, prefix_lines, external_line, header_lines, lines_of, case_text}
+use Rattle.dn_case.specs.Spelling.{digits, kind_word, address_text, net_text, fields_of, spelled, AreSmall, IsSpellable, router_line, link_line, external_line, header_lines_with, lines_with, case_text}
+use Rattle.dn_case.specs.CaseTexts.{IsInterleaving, prefixes_of, numbered_lines, case_lines}
 use Rattle.dn_case.specs.Reading.{IsCaseText, IsCaseFront}
 use Rattle.dn_case.proofs.Fields.{free, each_true, free-append, name_free, hex_free}
 use Rattle.dn_case.proofs.Spelled.{AllFree, number_free, address_free}
-use Rattle.dn_case.proofs.CaseAgain.{lines_again}
+use Rattle.dn_case.proofs.CaseAgain.{lines_taken}
+use Rattle.dn_case.proofs.Interleavings.{in_order, is_in_order, lines_in_order}
 use Rattle.dn_case.proofs.PrefixLeads.{prefixes_spellable}
 use Rattle.dn_case.proofs.RoundTrip.{name_again, external_spellable, ports_few}
 
@@ -77,7 +80,7 @@ all_lines [] rest all = refl
 all_lines (l ∷ ls) rest all =
     ap lines (append_assoc (spelled l) (flat_map spelled ls) rest) ∙ spelled_then l (flat_map spelled ls ++ rest) all.0 ∙ ap (λ (x : List (List ℕ)). spelled l ∷ x) (all_lines ls rest all.1)
 
-concat_is_flat : (ls : List Line) → concat (map spelled ls) ≡ flat_map spelled ls
+pub concat_is_flat : (ls : List Line) → concat (map spelled ls) ≡ flat_map spelled ls
 concat_is_flat [] = refl
 concat_is_flat (l ∷ ls) = ap (λ (x : List ℕ). spelled l ++ x) (concat_is_flat ls)
 
@@ -101,18 +104,19 @@ externals_spellable h low (x ∷ xs) k are = (
   externals_spellable h x.group xs k are.1,
 )
 
-header_spellable : (h : Heading) → IsHeading h → AllByRecursion IsSpellable (header_lines h)
-header_spellable h k =
+header_spellable : (h : Heading) (lines : List Line) → IsHeading h → AllByRecursion IsSpellable lines → AllByRecursion IsSpellable (header_lines_with h lines)
+header_spellable h lines k prefixes =
     let routers = routers_spellable [] h.routers k.routers in
     let links = links_spellable h.routers [] h.links k.routers k.links in
-    let prefixes : AllByRecursion IsSpellable (flat_map prefix_lines h.routers) = prefixes_spellable all_joined [] h.routers k.routers in
     let behind = all_joined (map router_line h.routers) _ routers (all_joined (map (link_line h.routers) h.links) _ links prefixes) in
     (omega arith, (omega (arith, k.period.1), (omega (arith, k.groups.1), (k.seed, behind))))
 
-lines_spellable : (c : Recording) → IsRecording c → AllByRecursion IsSpellable (lines_of c)
-lines_spellable c h =
+lines_spellable : (c : Recording) (xs : List (ℕ × PrefixDef)) → IsRecording c → IsInterleaving (prefixes_of c.header.routers) xs → AllByRecursion IsSpellable (case_lines c xs)
+lines_spellable c xs h order =
+    let lines = numbered_lines c.header.routers xs in
     let ends : AllByRecursion IsSpellable (End ∷ []) = (tt, tt) in
-    all_joined (header_lines c.header) _ (header_spellable c.header h.header) (tt, all_joined (map (external_line c.header.routers) c.feed) (End ∷ []) (externals_spellable c.header 0 c.feed h.header h.feed) ends)
+    all_joined (header_lines_with c.header lines) _ (header_spellable c.header lines h.header (prefixes_spellable c.header.routers xs h.header.routers order))
+    (tt, all_joined (map (external_line c.header.routers) c.feed) (End ∷ []) (externals_spellable c.header 0 c.feed h.header h.feed) ends)
 
 front_of_text : (text : List ℕ) (ls : List Line) (rest : List ℕ) (c : Recording) → text ≡ flat_map spelled ls ++ rest → AllByRecursion IsSpellable ls → IsCaseText (map spelled ls) c → IsCaseFront text c (length (flat_map spelled ls))
 front_of_text text ls rest c is all w =
@@ -125,7 +129,17 @@ front_of_text text ls rest c is all w =
       long = ap (λ (x : List ℕ). length x) (sym (concat_is_flat ls)) ∙ ap (λ (x : List (List ℕ)). length (concat x)) (sym front);
     }
 
--- The text of a case that meets the rules, whatever follows it, has the case at its front.
+-- The lines of a case that meets the rules, in each order of the prefix lines and whatever follows them, are a front of the text.
+pub front_taken : (c : Recording) (xs : List (ℕ × PrefixDef)) (rest : List ℕ) → IsRecording c → IsInterleaving (prefixes_of c.header.routers) xs →
+    IsCaseFront (flat_map spelled (case_lines c xs) ++ rest) c (length (flat_map spelled (case_lines c xs)))
+front_taken c xs rest h order =
+    let ls = case_lines c xs in
+    front_of_text (flat_map spelled ls ++ rest) ls rest c refl (lines_spellable c xs h order) (lines_taken c xs h order)
+
+-- So they are in the order of the routers.
 pub text_again : (c : Recording) (rest : List ℕ) → IsRecording c → IsCaseFront (case_text c ++ rest) c (length (case_text c))
 unfolding case_text
-text_again c rest h = front_of_text (case_text c ++ rest) (lines_of c) rest c refl (lines_spellable c h) (lines_again c h)
+text_again c rest h =
+    let rs = c.header.routers in
+    subst (λ (lines : List Line). IsCaseFront (flat_map spelled (lines_with c lines) ++ rest) c (length (flat_map spelled (lines_with c lines)))) (lines_in_order rs)
+    (front_taken c (in_order 0 rs) rest h (is_in_order rs))

@@ -15,9 +15,11 @@ pub mod Fields
 pub mod Spelled
 pub mod RoundTrip
 pub mod ExternalLines
+pub mod Interleavings
 pub mod PrefixLeads
 pub mod CaseAgain
 pub mod Fronts
 pub mod TraceSectionLaws
 pub mod OneSpelling
 pub mod Together
+pub mod SpelledCases

@@ -381,7 +381,7 @@ routers_same [] i p = refl
 routers_same (r ∷ rs) zero p = refl
 routers_same (r ∷ rs) (suc i) p = ap (λ (x : List Line). router_line r ∷ x) (routers_same rs i p)
 
-name_same : (rs : List RouterDef) (i : ℕ) (p : PrefixDef) (j : ℕ) → name_at (with_prefix rs i p) j ≡ name_at rs j
+pub name_same : (rs : List RouterDef) (i : ℕ) (p : PrefixDef) (j : ℕ) → name_at (with_prefix rs i p) j ≡ name_at rs j
 unfolding with_prefix
 name_same [] i p j = refl
 name_same (r ∷ rs) zero p zero = refl
@@ -428,20 +428,33 @@ link_more s a b delay cost m free =
       prefixes = λ name. sym (append-nil (owned s.routers name));
     }
 
-prefix_more : (s : Standing) (name : List ℕ) (net : Net) (cost : Number) → may_follow s.place place.Prefix ≡ true → first_of (table s (Prefix name net cost)) ≡ None → IsMore s (Prefix name net cost)
-prefix_more s name net cost m free =
+-- a prefix line without a cause: its router is known, and it is the line of the prefix that it adds
+pub record IsPrefixAgain (s : Standing) (name : List ℕ) (net : Net) (cost : Number) : Type 0 where
+  pub known : number_of s.routers name ≡ Some (number_at s name)
+  pub within : IsWithin (Prefix name net cost)
+  pub is : prefix_line name (record { address = address net; len = value net.len; cost = value cost }) ≡ Prefix name net cost
+
+pub prefix_again : (s : Standing) (name : List ℕ) (net : Net) (cost : Number) → first_of (table s (Prefix name net cost)) ≡ None → IsPrefixAgain s name net cost
+prefix_again s name net cost free =
     let range = free_test (not (net_fits net && between 1 65535 cost) || router_is (λ r. is_rip r.kind && not (between 1 15 cost)) s name) cause.Range _ free in
     let unknown = free_test (not (is_known s name)) cause.Name _ range.1 in
-    let known = known_is (number_of s.routers name) (held (is_known s name) unknown.0) in
     let ranges = neither (not (net_fits net && between 1 65535 cost)) _ range.0 in
     let fits = both (net_fits net) (between 1 65535 cost) (held _ ranges.0) in
     let n = is_net net fits.0 in
-    let p : PrefixDef = record { address = address net; len = value net.len; cost = value cost } in
-    let line : prefix_line name p ≡ Prefix name net cost = prefix_same name _ net _ cost n.is (between_is 1 65535 cost fits.1) in
     record {
+      known = known_is (number_of s.routers name) (held (is_known s name) unknown.0);
       within = (n.small, between_small 1 65535 cost fits.1 (omega arith));
+      is = prefix_same name _ net _ cost n.is (between_is 1 65535 cost fits.1);
+    }
+
+prefix_more : (s : Standing) (name : List ℕ) (net : Net) (cost : Number) → may_follow s.place place.Prefix ≡ true → first_of (table s (Prefix name net cost)) ≡ None → IsMore s (Prefix name net cost)
+prefix_more s name net cost m free =
+    let again = prefix_again s name net cost free in
+    let p : PrefixDef = record { address = address net; len = value net.len; cost = value cost } in
+    record {
+      within = again.within;
       others = prefix_plain s name net cost m;
-      prefixes = λ q. owned_next s.routers (number_at s name) name p q known ∙ ap (λ (l : Line). owned s.routers q ++ cond (is_word q name) (l ∷ []) []) line;
+      prefixes = λ q. owned_next s.routers (number_at s name) name p q again.known ∙ ap (λ (l : Line). owned s.routers q ++ cond (is_word q name) (l ∷ []) []) again.is;
     }
 
 external_more : (s : Standing) (group : Number) (name : List ℕ) (a : Ask) → may_follow s.place place.External ≡ true → IsWell (External group name a) → first_of (table s (External group name a)) ≡ None → Sound s.place (case_of s) → IsMore s (External group name a)

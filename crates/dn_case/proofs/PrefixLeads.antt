@@ -1,26 +1,28 @@
--- The prefix lines of routers are read again, in the order of the routers.
-use Rattle.std.proofs.Common.{◌≡◌, ℕ, ◌<◌, ◌≤◌, true, List, [], ◌∷◌, ◌++◌, length, map, Some, None, Ok, IsTrue, refl, sym, ap, subst, ◌∙◌, append_assoc, arith}
+-- The prefix lines of routers are read again, in each order that keeps each router's own.
+use Rattle.std.proofs.Common.{◌≡◌, ℕ, zero, suc, ◌<◌, ◌≤◌, ◌^◌, true, List, [], ◌∷◌, ◌++◌, length, map, get_or, Some, None, Ok, IsTrue, refl, sym, ap, subst, ◌∙◌, append_assoc, arith}
 use Rattle.std.specs.Prelude.{slice_get}
-use Rattle.std.specs.List.{flat_map, AllByRecursion}
+use Rattle.std.specs.List.{AllByRecursion}
 use Rattle.std.proofs.lemmas.List.{append-nil, length-append}
-use Rattle.std.proofs.Math.Seq.{get_or-append_seam}
 use Rattle.dn_model.specs.declared.router.RouterDef.{RouterDef}
+use Rattle.dn_model.specs.declared.router.Kind.{Kind}
 use Rattle.dn_model.specs.declared.router.Prefix.{Prefix as PrefixDef}
 use Rattle.dn_model.specs.Names.{is_name}
 use Rattle.dn_model.specs.Kinds.{IsPrefix, ArePrefixes}
-use Rattle.dn_model.specs.Routers.{number_of}
-use Rattle.dn_model.specs.Cases.{IsRouter, AreRouters}
+use Rattle.dn_model.specs.Routers.{number_of, name_at}
+use Rattle.dn_model.specs.Cases.{AreRouters}
 use Rattle.dn_case.specs.declared.standing.Standing.{Standing}
 use Rattle.dn_case.specs.declared.place.Place.{Place}
 use Rattle.dn_case.specs.declared.place.Place.TheVariants as place
 use Rattle.dn_case.specs.Shapes.{Line}
-use Rattle.dn_case.specs.Standings.{may_follow, first_of, table, after, and_prefix, with_prefix}
-use Rattle.dn_case.specs.Spelling.{spelled, IsSpellable, prefix_line, prefix_lines}
+use Rattle.dn_case.specs.Standings.{may_follow, first_of, table, after, with_prefix, read_line, start}
+use Rattle.dn_case.specs.Spelling.{spelled, IsSpellable, prefix_line}
+use Rattle.dn_case.specs.CaseTexts.{IsInterleaving, prefixes_of, numbered_lines}
 use Rattle.dn_case.specs.Reading.{Leads}
 use Rattle.dn_case.proofs.Leading.{leads_join}
 use Rattle.dn_case.proofs.RouterLaws.{nobody}
-use Rattle.dn_case.proofs.PrefixLaws.{same_number, names_joined, net_again, net_small, net_fits_again, cost_small, cost_wide, cost_rip, cost_flood, no_host_again}
-use Rattle.dn_case.proofs.RoundTrip.{reads_on, le_false, at, bare, bares, bare_names, number_again}
+use Rattle.dn_case.proofs.PrefixLaws.{same_number, net_again, net_small, net_fits_again, cost_small, cost_wide, cost_rip, cost_flood, no_host_again}
+use Rattle.dn_case.proofs.RoundTrip.{reads_on, le_false, at, bares, bare_names, length_bares, read_again}
+use Rattle.dn_case.proofs.Interleavings.{prefixes_at, own_at, own_here, less_at_front, bare_with_prefix, bare_prefixes, bare_twice, part, found_bare, routers_same, prefixes_are, is_there}
 
 map_joined : (xs ys : List Line) → map spelled (xs ++ ys) ≡ map spelled xs ++ map spelled ys
 map_joined [] ys = refl
@@ -29,109 +31,94 @@ map_joined (x ∷ xs) ys = ap (λ (l : List (List ℕ)). spelled x ∷ l) (map_j
 pub lines_join : (xs ys : List Line) (s t u : Standing) → Leads s (map spelled xs) t → Leads t (map spelled ys) u → Leads s (map spelled (xs ++ ys)) u
 lines_join xs ys s t u h k = subst (λ (l : List (List ℕ)). Leads s l u) (sym (map_joined xs ys)) (leads_join (map spelled xs) (map spelled ys) s t u h k)
 
--- ---- a router behind others
+-- ---- the rules of one prefix
 
--- a router with these prefixes so far
-abbrev part : RouterDef → List PrefixDef → RouterDef
-part r ps = record { name = r.name; kind = r.kind; prefixes = ps }
+record AreRules (r : RouterDef) : Type 0 where
+  named : IsTrue (is_name r.name)
+  few : length r.prefixes ≤ 32
+  prefixes : ArePrefixes r.kind [] r.prefixes
 
-found_at : (done : List RouterDef) (r : RouterDef) (rest : List RouterDef) → slice_get (done ++ r ∷ rest) (length done) ≡ Some r
-found_at [] r rest = refl
-found_at (d ∷ done) r rest = found_at done r rest
+rules_at : (before rs : List RouterDef) (i : ℕ) → AreRouters before rs → i < length rs → AreRules (get_or rs i nobody)
+rules_at before [] i h inside = absurd (omega arith)
+rules_at before (r ∷ rs) zero h inside = record { named = h.0.named; few = h.0.few_prefixes; prefixes = h.0.prefixes }
+rules_at before (r ∷ rs) (suc i) h inside = rules_at (before ++ r ∷ []) rs i h.1 (omega arith)
 
-with_prefix_at : (done : List RouterDef) (r : RouterDef) (rest : List RouterDef) (p : PrefixDef) → with_prefix (done ++ r ∷ rest) (length done) p ≡ done ++ and_prefix r p ∷ rest
-unfolding with_prefix
-with_prefix_at [] r rest p = refl
-with_prefix_at (d ∷ done) r rest p = ap (λ (rs : List RouterDef). d ∷ rs) (with_prefix_at done r rest p)
+rules_behind : (k : Kind) (before done : List PrefixDef) (p : PrefixDef) (rest : List PrefixDef) → ArePrefixes k before (done ++ p ∷ rest) → IsPrefix k (before ++ done) p
+rules_behind k before [] p rest h = subst (λ (b : List PrefixDef). IsPrefix k b p) (sym (append-nil before)) h.0
+rules_behind k before (d ∷ done) p rest h =
+    subst (λ (b : List PrefixDef). IsPrefix k b p) (append_assoc before (d ∷ []) done) (rules_behind k (before ++ d ∷ []) done p rest h.1)
 
-length_inside : (done : List RouterDef) (r : RouterDef) (rest : List RouterDef) → length done < length (done ++ r ∷ rest)
-length_inside done r rest = omega (arith, length-append done (r ∷ rest))
-
-numbered_at : (done : List RouterDef) (r : RouterDef) (rest : List RouterDef) → AreRouters [] (done ++ r ∷ rest) → number_of (done ++ r ∷ rest) r.name ≡ Some (length done)
-numbered_at done r rest h =
-    let again = number_again (done ++ r ∷ rest) (length done) h (length_inside done r rest) in
-    ap (λ (x : RouterDef). number_of (done ++ r ∷ rest) x.name) (sym (get_or-append_seam done r rest nobody)) ∙ again
-
-part_names : (done : List RouterDef) (r : RouterDef) (ps : List PrefixDef) (rest : List RouterDef) → map (λ r. r.name) (done ++ part r ps ∷ bares rest) ≡ map (λ r. r.name) (done ++ r ∷ rest)
-part_names done r ps rest =
-    names_joined done (part r ps ∷ bares rest)
-    ∙ ap (λ (names : List (List ℕ)). map (λ r. r.name) done ++ r.name ∷ names) (bare_names rest)
-    ∙ sym (names_joined done (r ∷ rest))
-
-part_numbered : (done : List RouterDef) (r : RouterDef) (ps : List PrefixDef) (rest : List RouterDef) → AreRouters [] (done ++ r ∷ rest) → number_of (done ++ part r ps ∷ bares rest) r.name ≡ Some (length done)
-part_numbered done r ps rest h =
-    same_number (done ++ part r ps ∷ bares rest) (done ++ r ∷ rest) r.name (part_names done r ps rest) ∙ numbered_at done r rest h
-
-router_at : (before done : List RouterDef) (r : RouterDef) (rest : List RouterDef) → AreRouters before (done ++ r ∷ rest) → IsRouter (before ++ done) r
-router_at before [] r rest h = subst (λ (b : List RouterDef). IsRouter b r) (sym (append-nil before)) h.0
-router_at before (d ∷ done) r rest h =
-    subst (λ (b : List RouterDef). IsRouter b r) (append_assoc before (d ∷ []) done) (router_at (before ++ d ∷ []) done r rest h.1)
+fewer : (done rest : List PrefixDef) (p : PrefixDef) → length (done ++ p ∷ rest) ≤ 32 → length done < 32
+fewer done rest p few = omega (arith, few, length-append done (p ∷ rest))
 
 -- ---- one prefix
 
-pub prefix_spellable : (r : RouterDef) (before : List PrefixDef) (p : PrefixDef) → IsTrue (is_name r.name) → IsPrefix r.kind before p → IsSpellable (prefix_line r.name p)
-prefix_spellable r before p named is = (named, net_small p is.address is.len, cost_small r.kind p.cost is.cost)
+prefix_free : (p : Place) (s : Standing) (now : List RouterDef) (name : List ℕ) (i : ℕ) (r : RouterDef) (q : PrefixDef) → number_of now name ≡ Some i → slice_get now i ≡ Some r → IsPrefix r.kind r.prefixes q → length r.prefixes < 32 →
+    first_of (table (at p now s) (prefix_line name q)) ≡ None
+prefix_free p s now name i r q number found is few =
+    rw (number, found, net_fits_again q is.address is.len, cost_wide r.kind q.cost is.cost, cost_rip r.kind q.cost is.cost, net_again q is.address, is.apart, cost_flood r.kind q.cost is.cost, no_host_again q is.address is.no_host, le_false 32 (length r.prefixes) few) refl
 
-prefix_free : (p : Place) (s : Standing) (done : List RouterDef) (r : RouterDef) (ps : List PrefixDef) (rest : List RouterDef) (q : PrefixDef) → AreRouters [] (done ++ r ∷ rest) → IsPrefix r.kind ps q → length ps < 32 →
-    first_of (table (at p (done ++ part r ps ∷ bares rest) s) (prefix_line r.name q)) ≡ None
-prefix_free p s done r ps rest q are is few =
-    rw (part_numbered done r ps rest are, found_at done (part r ps) (bares rest), net_fits_again q is.address is.len, cost_wide r.kind q.cost is.cost, cost_rip r.kind q.cost is.cost, net_again q is.address, is.apart, cost_flood r.kind q.cost is.cost, no_host_again q is.address is.no_host, le_false 32 (length ps) few) refl
+prefix_is : (p : Place) (s : Standing) (now : List RouterDef) (name : List ℕ) (i : ℕ) (q : PrefixDef) → number_of now name ≡ Some i → q.address < 2 ^ 32 → after (at p now s) (prefix_line name q) ≡ at place.Prefix (with_prefix now i q) s
+prefix_is p s now name i q number small = rw (number, net_again q small) refl
 
-prefix_is : (p : Place) (s : Standing) (done : List RouterDef) (r : RouterDef) (ps : List PrefixDef) (rest : List RouterDef) (q : PrefixDef) → AreRouters [] (done ++ r ∷ rest) → IsPrefix r.kind ps q →
-    after (at p (done ++ part r ps ∷ bares rest) s) (prefix_line r.name q) ≡ at place.Prefix (done ++ part r (ps ++ q ∷ []) ∷ bares rest) s
-prefix_is p s done r ps rest q are is =
-    rw (part_numbered done r ps rest are, net_again q is.address, with_prefix_at done (part r ps) (bares rest) q) refl
+names_same : (now rs : List RouterDef) → bares now ≡ bares rs → map (λ r. r.name) now ≡ map (λ r. r.name) rs
+names_same now rs e = sym (bare_names now) ∙ ap (λ (x : List RouterDef). map (λ r. r.name) x) e ∙ bare_names rs
 
--- ---- the prefixes of a router, and of all
+-- the prefix q is the next one of the router i of rs, whose prefixes so far are those of now
+record IsNext (p : Place) (s : Standing) (now rs : List RouterDef) (i : ℕ) (q : PrefixDef) : Type 0 where
+  inside : i < length rs
+  spellable : IsSpellable (prefix_line (name_at rs i) q)
+  reads : read_line (at p now s) (spelled (prefix_line (name_at rs i) q)) ≡ Ok (at place.Prefix (with_prefix now i q) s)
 
--- the lines lead to the place q, behind which further prefix lines and the line of the feed may stand
-pub record PrefixesLead (s : Standing) (lines : List Line) (rs : List RouterDef) : Type 0 where
-  pub q : Place
-  pub prefix : may_follow q place.Prefix ≡ true
-  pub feed : may_follow q place.Feed ≡ true
-  pub leads : Leads s (map spelled lines) (at q rs s)
-
-router_prefixes : (p : Place) (s : Standing) (done : List RouterDef) (r : RouterDef) (rest : List RouterDef) (ps qs : List PrefixDef) → may_follow p place.Prefix ≡ true → may_follow p place.Feed ≡ true → AreRouters [] (done ++ r ∷ rest) → IsTrue (is_name r.name) → ArePrefixes r.kind ps qs → length (ps ++ qs) ≤ 32 →
-    PrefixesLead (at p (done ++ part r ps ∷ bares rest) s) (map (prefix_line r.name) qs) (done ++ part r (ps ++ qs) ∷ bares rest)
-unfolding may_follow
-router_prefixes p s done r rest ps [] m f are named h few =
-    record { q = p; prefix = m; feed = f; leads = ap (λ (x : List PrefixDef). at p (done ++ part r x ∷ bares rest) s) (sym (append-nil ps)) }
-router_prefixes p s done r rest ps (q ∷ qs) m f are named h few =
-    let short : length ps < 32 = omega (arith, few, length-append ps (q ∷ qs)) in
-    let regrouped : (ps ++ q ∷ []) ++ qs ≡ ps ++ q ∷ qs = append_assoc ps (q ∷ []) qs in
-    let s1 = at p (done ++ part r ps ∷ bares rest) s in
-    let s2 = at place.Prefix (done ++ part r (ps ++ q ∷ []) ∷ bares rest) s in
-    let more = router_prefixes place.Prefix s done r rest (ps ++ q ∷ []) qs refl refl are named h.1 (subst (λ (x : List PrefixDef). length x ≤ 32) (sym regrouped) few) in
-    let read = reads_on s1 (prefix_line r.name q) (prefix_spellable r ps q named h.0) m (prefix_free p s done r ps rest q are h.0 short) in
+is_next : (p : Place) (s : Standing) (now rs : List RouterDef) (i : ℕ) (q : PrefixDef) (rest : List PrefixDef) → may_follow p place.Prefix ≡ true → AreRouters [] rs → bares now ≡ bares rs → prefixes_at now i ++ q ∷ rest ≡ prefixes_at rs i → IsNext p s now rs i q
+is_next p s now rs i q rest m are same e =
+    let done = prefixes_at now i in
+    let inside = is_there rs i done rest q e in
+    let r = get_or rs i nobody in
+    let rules = rules_at [] rs i are inside in
+    let all : done ++ q ∷ rest ≡ r.prefixes = e ∙ prefixes_are rs i in
+    let is : IsPrefix r.kind done q = rules_behind r.kind [] done q rest (subst (λ (ps : List PrefixDef). ArePrefixes r.kind [] ps) (sym all) rules.prefixes) in
+    let few = fewer done rest q (subst (λ (ps : List PrefixDef). length ps ≤ 32) (sym all) rules.few) in
+    let again = read_again rs i are inside in
+    let name = name_at rs i in
+    let number : number_of now name ≡ Some i = same_number now rs name (names_same now rs same) ∙ again.number in
+    let spellable : IsSpellable (prefix_line name q) = (again.named, net_small q is.address is.len, cost_small r.kind q.cost is.cost) in
+    let free = prefix_free p s now name i (part r done) q number (found_bare now rs i same inside) is few in
     record {
-      q = more.q;
-      prefix = more.prefix;
-      feed = more.feed;
-      leads = (s2, read ∙ ap (λ (t : Standing). Ok t) (prefix_is p s done r ps rest q are h.0), subst (λ (x : List PrefixDef). Leads s2 (map spelled (map (prefix_line r.name) qs)) (at more.q (done ++ part r x ∷ bares rest) s)) regrouped more.leads);
+      inside = inside;
+      spellable = spellable;
+      reads = reads_on (at p now s) (prefix_line name q) spellable m free ∙ ap (λ (t : Standing). Ok t) (prefix_is p s now name i q number is.address);
     }
 
-pub prefixes_lead : (p : Place) (s : Standing) (done rest : List RouterDef) → may_follow p place.Prefix ≡ true → may_follow p place.Feed ≡ true → AreRouters [] (done ++ rest) →
-    PrefixesLead (at p (done ++ bares rest) s) (flat_map prefix_lines rest) (done ++ rest)
-prefixes_lead p s done [] m f are = record { q = p; prefix = m; feed = f; leads = refl }
-prefixes_lead p s done (r ∷ rest) m f are =
-    let is = router_at [] done r rest are in
-    let own = router_prefixes p s done r rest [] r.prefixes m f are is.named is.prefixes is.few_prefixes in
-    let regrouped : (rs : List RouterDef) → (done ++ r ∷ []) ++ rs ≡ done ++ r ∷ rs = λ rs. append_assoc done (r ∷ []) rs in
-    let more = prefixes_lead own.q s (done ++ r ∷ []) rest own.prefix own.feed (subst (λ (x : List RouterDef). AreRouters [] x) (sym (regrouped rest)) are) in
-    let s1 = at p (done ++ bare r ∷ bares rest) s in
-    let s2 = at own.q (done ++ r ∷ bares rest) s in
-    let further : Leads s2 (map spelled (flat_map prefix_lines rest)) (at more.q (done ++ r ∷ rest) s) =
-    subst (λ (x : List RouterDef). Leads s2 (map spelled (flat_map prefix_lines rest)) (at more.q x s)) (regrouped rest)
-    (subst (λ (x : List RouterDef). Leads (at own.q x s) (map spelled (flat_map prefix_lines rest)) (at more.q ((done ++ r ∷ []) ++ rest) s)) (regrouped (bares rest)) more.leads) in
-    record { q = more.q; prefix = more.prefix; feed = more.feed; leads = lines_join (prefix_lines r) (flat_map prefix_lines rest) s1 s2 _ own.leads further }
+-- ---- all prefixes
 
--- ---- they have their spelling
+-- the lines lead to the place q, behind which the line of the feed may come
+pub record PrefixesLead (s : Standing) (lines : List Line) (rs : List RouterDef) : Type 0 where
+  pub q : Place
+  pub feed : may_follow q place.Feed ≡ true
+  pub leads : Leads s (map spelled lines) (at q rs s)
+  pub spellable : AllByRecursion IsSpellable lines
 
-router_spellable : (r : RouterDef) (before ps : List PrefixDef) → IsTrue (is_name r.name) → ArePrefixes r.kind before ps → AllByRecursion IsSpellable (map (prefix_line r.name) ps)
-router_spellable r before [] named h = tt
-router_spellable r before (p ∷ ps) named h = (prefix_spellable r before p named h.0, router_spellable r (before ++ p ∷ []) ps named h.1)
+as_many : (now rs : List RouterDef) → bares now ≡ bares rs → length now ≡ length rs
+as_many now rs e = sym (length_bares now) ∙ ap (λ (x : List RouterDef). length x) e ∙ length_bares rs
 
-pub prefixes_spellable : ((xs ys : List Line) → AllByRecursion IsSpellable xs → AllByRecursion IsSpellable ys → AllByRecursion IsSpellable (xs ++ ys)) → (before rs : List RouterDef) → AreRouters before rs → AllByRecursion IsSpellable (flat_map prefix_lines rs)
-prefixes_spellable join before [] h = tt
-prefixes_spellable join before (r ∷ rs) h =
-    join (prefix_lines r) (flat_map prefix_lines rs) (router_spellable r [] r.prefixes h.0.named h.0.prefixes) (prefixes_spellable join (before ++ r ∷ []) rs h.1)
+rest_lead : (p : Place) (s : Standing) (now rs : List RouterDef) (xs : List (ℕ × PrefixDef)) → may_follow p place.Prefix ≡ true → may_follow p place.Feed ≡ true → AreRouters [] rs → bares now ≡ bares rs → ((i : ℕ) → prefixes_at now i ++ own_at i xs ≡ prefixes_at rs i) →
+    PrefixesLead (at p now s) (numbered_lines rs xs) rs
+unfolding may_follow
+rest_lead p s now rs [] m f are same left =
+    record { q = p; feed = f; leads = ap (λ (x : List RouterDef). at p x s) (routers_same now rs same (λ i. sym (append-nil (prefixes_at now i)) ∙ left i)); spellable = tt }
+rest_lead p s now rs (x ∷ xs) m f are same left =
+    let next = is_next p s now rs x.0 x.1 (own_at x.0 xs) m are same (ap (λ (ps : List PrefixDef). prefixes_at now x.0 ++ ps) (sym (own_here x xs)) ∙ left x.0) in
+    let then = with_prefix now x.0 x.1 in
+    let inside : x.0 < length now = omega (arith, next.inside, as_many now rs same) in
+    let more = rest_lead place.Prefix s then rs xs refl refl are (bare_with_prefix now x.0 x.1 ∙ same) (λ i. less_at_front now x xs i (prefixes_at rs i) inside (left i)) in
+    record { q = more.q; feed = more.feed; leads = (at place.Prefix then s, next.reads, more.leads); spellable = (next.spellable, more.spellable) }
+
+pub prefixes_lead : (p : Place) (s : Standing) (rs : List RouterDef) (xs : List (ℕ × PrefixDef)) → may_follow p place.Prefix ≡ true → may_follow p place.Feed ≡ true → AreRouters [] rs → IsInterleaving (prefixes_of rs) xs →
+    PrefixesLead (at p (bares rs) s) (numbered_lines rs xs) rs
+prefixes_lead p s rs xs m f are order =
+    rest_lead p s (bares rs) rs xs m f are (bare_twice rs) (λ i. ap (λ (ps : List PrefixDef). ps ++ own_at i xs) (bare_prefixes rs i) ∙ order i)
+
+pub prefixes_spellable : (rs : List RouterDef) (xs : List (ℕ × PrefixDef)) → AreRouters [] rs → IsInterleaving (prefixes_of rs) xs → AllByRecursion IsSpellable (numbered_lines rs xs)
+unfolding may_follow
+prefixes_spellable rs xs are order = (prefixes_lead place.Router start rs xs refl refl are order).spellable

@@ -6,3 +6,4 @@ pub mod Reading
 pub mod TraceSections
 pub mod Externals
 pub mod Orders
+pub mod CaseTexts

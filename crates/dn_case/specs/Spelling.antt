@@ -133,13 +133,21 @@ external_line routers x = External (Is x.group) (name_at routers x.router) (aske
 abbrev pub number_lines : Heading → List Line
 number_lines h = Version (Is 1) ∷ Period (Is h.period) ∷ Groups (Is h.groups) ∷ Seed (Is h.seed) ∷ []
 
+-- the lines of a header with these prefix lines
+abbrev pub header_lines_with : Heading → List Line → List Line
+header_lines_with h prefixes = number_lines h ++ (map router_line h.routers ++ (map (link_line h.routers) h.links ++ prefixes))
+
 -- the lines of a header, the prefix lines in the order of the routers
 abbrev pub header_lines : Heading → List Line
-header_lines h = number_lines h ++ (map router_line h.routers ++ (map (link_line h.routers) h.links ++ flat_map prefix_lines h.routers))
+header_lines h = header_lines_with h (flat_map prefix_lines h.routers)
 
--- the lines of a case
+-- the lines of a case with these prefix lines
+abbrev pub lines_with : Recording → List Line → List Line
+lines_with c prefixes = header_lines_with c.header prefixes ++ (Feed ∷ (map (external_line c.header.routers) c.feed ++ (End ∷ [])))
+
+-- the lines of a case, the prefix lines in the order of the routers
 abbrev pub lines_of : Recording → List Line
-lines_of c = header_lines c.header ++ (Feed ∷ (map (external_line c.header.routers) c.feed ++ (End ∷ [])))
+lines_of c = lines_with c (flat_map prefix_lines c.header.routers)
 
 -- the text of a case: its one spelling in which the prefix lines stand in the order of the routers
 unfoldable pub case_text : Recording → List ℕ

@@ -1,13 +1,15 @@
 //! Laws over all texts and cases.
 
-ghost use Rattle.std.specs.Prelude.{◌≡◌, ◌++◌, ℕ, List, [], Some, length, map, take};
-ghost use Rattle.std.specs.List.{AllByRecursion};
+ghost use Rattle.std.specs.Prelude.{◌≡◌, ◌↔◌, ◌++◌, ℕ, List, [], Some, length, map, take};
+ghost use Rattle.std.specs.List.{AllByRecursion, flat_map};
 ghost use Rattle.dn_model.specs.declared.feed.External.{External};
+ghost use Rattle.dn_model.specs.declared.router.Prefix.{Prefix};
 ghost use Rattle.dn_model.specs.Cases.{Heading, IsHeading, Recording, IsRecording};
 ghost use Rattle.dn_case.specs.declared.cause.Cause.{Cause};
 ghost use Rattle.dn_case.specs.Shapes.{Line, line_of};
 ghost use Rattle.dn_case.specs.Spelling.{IsSpellable, IsWithin, spelled, lines_of, case_text};
 ghost use Rattle.dn_case.specs.Orders.{other_lines, prefix_lines_of, StandTogether};
+ghost use Rattle.dn_case.specs.CaseTexts.{KeepsOrder, case_lines, Spells, BeginsWith};
 ghost use Rattle.dn_case.specs.Externals.{IsExternalLine};
 ghost use Rattle.dn_case.specs.Reading.{IsCaseText, IsCaseFront, IsFirstBad};
 
@@ -38,6 +40,23 @@ pub fn a_written_case_is_read()
     ensures lines { (c : Recording) → IsRecording c → IsCaseText (map spelled (lines_of c)) c }
     // Its text is a front of any text that begins with it.
     ensures front { (c : Recording) (rest : List ℕ) → IsRecording c → IsCaseFront (case_text c ++ rest) c (length (case_text c)) }
+{}
+
+/// What is read as a case is what spells it (`specs/CaseTexts.antt`).
+pub fn a_case_text_spells_its_case()
+    ensures lines { (ls : List (List ℕ)) (c : Recording) → IsCaseText ls c ↔ Spells ls c }
+    // A text has the case at its front exactly if it begins with lines that spell it.
+    ensures front { (text : List ℕ) (c : Recording) (n : ℕ) → IsCaseFront text c n ↔ BeginsWith text c n }
+{}
+
+/// The prefix lines of different routers may be interleaved: every order of them that keeps each router's
+/// own is read as the same case.
+pub fn prefix_lines_may_be_interleaved()
+    ensures lines { (c : Recording) (ps : List (ℕ × Prefix)) → IsRecording c → KeepsOrder c ps →
+        IsCaseText (map spelled (case_lines c ps)) c }
+    // Anything may follow.
+    ensures front { (c : Recording) (ps : List (ℕ × Prefix)) (rest : List ℕ) → IsRecording c → KeepsOrder c ps →
+        (let bytes = flat_map spelled (case_lines c ps) in IsCaseFront (bytes ++ rest) c (length bytes)) }
 {}
 
 /// A case has one spelling, but that prefix lines of different routers may stand in any order among

@@ -23,8 +23,9 @@
 //! The contracts upwards: `read_case` answers a case exactly where a front of the text is a case text of
 //! that case (`specs/Reading.antt`), and else the first bad line with its cause (`specs/Standings.antt`
 //! has a test for each cause, and the table of their order). `write_case` writes `case_text` of
-//! `specs/Spelling.antt`, and that text is read as the same case, whatever follows it. Other texts that
-//! have externals of a header read them by `KnownHeader::external` and write them by `push_external`.
+//! `specs/Spelling.antt`, and that text is read as the same case, whatever follows it. What a case text is
+//! without the steps of reading says `specs/CaseTexts.antt`; `laws.rt` has that it is the same. Other texts
+//! that have externals of a header read them by `KnownHeader::external` and write them by `push_external`.
 #![tactic(auto)]
 
 mod cause;
@@ -46,9 +47,9 @@ mod write;
 pub use cause::{CaseError, CaseFault, Cause};
 pub use known_header::KnownHeader;
 pub use laws::{
-    a_case_has_one_spelling, a_line_has_one_external, a_read_line_is_spelled,
-    a_spelled_line_is_read, a_text_has_one_case, a_text_has_one_first_bad_line,
-    a_written_case_is_read,
+    a_case_has_one_spelling, a_case_text_spells_its_case, a_line_has_one_external,
+    a_read_line_is_spelled, a_spelled_line_is_read, a_text_has_one_case,
+    a_text_has_one_first_bad_line, a_written_case_is_read, prefix_lines_may_be_interleaved,
 };
 pub use read::read_case;
 pub use trace_section::split_trace;
