@@ -1,5 +1,5 @@
 -- Prefixes: their numbers, what the tests of a prefix line say, and routers with one more prefix.
-use Rattle.std.proofs.Common.{◌≡◌, ℕ, ◌+◌, ◌*◌, ◌-◌, ◌<◌, ◌≤◌, ◌^◌, ◌/◌, ◌%◌, zero, suc, Bool, true, false, not, ◌&&◌, nat_eq, List, [], ◌∷◌, ◌++◌, length, map, get_or, refl, sym, ap, subst, ◌∙◌, append_assoc, arith, rules, tests}
+use Rattle.std.proofs.Common.{◌≡◌, ℕ, ◌+◌, ◌*◌, ◌-◌, ◌<◌, ◌≤◌, ◌^◌, ◌/◌, ◌%◌, zero, suc, Bool, true, false, not, ◌&&◌, nat_eq, nat_le, List, [], ◌∷◌, ◌++◌, length, map, get_or, refl, sym, ap, subst, ◌∙◌, append_assoc, arith, rules, tests}
 use Rattle.std.specs.Prelude.{position}
 use Rattle.std.specs.Cmp.Lexicographic.{pointwise}
 use Rattle.std.proofs.lemmas.Bool.{eqb-true}
@@ -44,7 +44,7 @@ len_fits net fits =
 
 pub no_host_bits : (net : Net) → has_host_bits net ≡ false → address net % 2 ^ (32 - value net.len) ≡ 0
 unfolding has_host_bits
-no_host_bits net free = eqb-true (address net % 2 ^ (32 - value net.len)) 0 (held _ free)
+no_host_bits net free = eqb-true (address net % 2 ^ (32 - value net.len)) 0 (both (nat_le (value net.len) 32) _ (held _ free)).1
 
 rip_cost : (b : Bool) → (true && not b) ≡ false → b ≡ true
 rip_cost true e = refl
@@ -126,9 +126,12 @@ net_fits_again p small short =
     let len = within 0 32 p.len (omega arith) short in
     rw (a, b, c, d, len) refl
 
-pub no_host_again : (p : Prefix) → p.address < 2 ^ 32 → p.address % 2 ^ (32 - p.len) ≡ 0 → has_host_bits (net_of_prefix p) ≡ false
+a_length : (len : ℕ) → len ≤ 32 → nat_le len 32 ≡ true
+a_length len short = search (rules, tests)
+
+pub no_host_again : (p : Prefix) → p.address < 2 ^ 32 → p.len ≤ 32 → p.address % 2 ^ (32 - p.len) ≡ 0 → has_host_bits (net_of_prefix p) ≡ false
 unfolding has_host_bits
-no_host_again p small none = rw (net_again p small, none) refl
+no_host_again p small short none = rw (net_again p small, a_length p.len short, none) refl
 
 -- ---- a prefix's cost, in its line
 

@@ -56,7 +56,7 @@ fewer done rest p few = omega (arith, few, length-append done (p ∷ rest))
 prefix_free : (p : Place) (s : Standing) (now : List RouterDef) (name : List ℕ) (i : ℕ) (r : RouterDef) (q : PrefixDef) → number_of now name ≡ Some i → slice_get now i ≡ Some r → IsPrefix r.kind r.prefixes q → length r.prefixes < 32 →
     first_of (table (at p now s) (prefix_line name q)) ≡ None
 prefix_free p s now name i r q number found is few =
-    rw (number, found, net_fits_again q is.address is.len, cost_wide r.kind q.cost is.cost, cost_rip r.kind q.cost is.cost, net_again q is.address, is.apart, cost_flood r.kind q.cost is.cost, no_host_again q is.address is.no_host, le_false 32 (length r.prefixes) few) refl
+    rw (number, found, net_fits_again q is.address is.len, cost_wide r.kind q.cost is.cost, cost_rip r.kind q.cost is.cost, net_again q is.address, is.apart, cost_flood r.kind q.cost is.cost, no_host_again q is.address is.len is.no_host, le_false 32 (length r.prefixes) few) refl
 
 prefix_is : (p : Place) (s : Standing) (now : List RouterDef) (name : List ℕ) (i : ℕ) (q : PrefixDef) → number_of now name ≡ Some i → q.address < 2 ^ 32 → after (at p now s) (prefix_line name q) ≡ at place.Prefix (with_prefix now i q) s
 prefix_is p s now name i q number small = rw (number, net_again q small) refl

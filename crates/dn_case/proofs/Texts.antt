@@ -1,9 +1,12 @@
 -- The text of a case, section by section.
-use Rattle.std.proofs.Common.{◌≡◌, ℕ, List, [], ◌∷◌, ◌++◌, map, refl, sym, ap, ◌∙◌, append_assoc}
+use Rattle.std.proofs.Common.{◌≡◌, ℕ, List, [], ◌∷◌, ◌++◌, map, refl, sym, ap, ◌∙◌, append_assoc, codes}
+use Rattle.std.specs.Fmt.{decimal}
 use Rattle.std.specs.List.{flat_map, AllByRecursion}
 use Rattle.std.proofs.lemmas.List.{append-nil}
 use Rattle.dn_model.specs.declared.router.RouterDef.{RouterDef}
+use Rattle.dn_model.specs.declared.router.Prefix.{Prefix as PrefixDef}
 use Rattle.dn_model.specs.declared.link.Link.{Link as LinkDef}
+use Rattle.dn_net.specs.Texts.{network_text, address_text}
 use Rattle.dn_model.specs.declared.feed.External.{External as ExternalDef}
 use Rattle.dn_guest.specs.declared.input.Input.{Input}
 use Rattle.dn_guest.specs.declared.input.Input.TheVariants as input
@@ -75,3 +78,13 @@ externals_inside h low (x ∷ xs) k = ((k.0.router, from_outside _ x.input k.0.a
 pub on_ok : {A E : Type 0} (r : Result A E) (P Q : Type 0) → (P → Q) → OnOk r P → OnOk r Q
 on_ok (Ok x) P Q f h = f h
 on_ok (Err e) P Q f h = tt
+
+-- ---- a prefix line, piece by piece
+
+pub prefix_text : (name : List ℕ) (p : PrefixDef) → spelled (prefix_line name p) ≡ (codes "prefix " ++ (name ++ (codes " " ++ []))) ++ (network_text p.address p.len ++ (codes " " ++ (decimal p.cost ++ (codes "\n" ++ []))))
+unfolding spelled network_text address_text
+prefix_text name p = simp (append_assoc, append-nil)
+
+pub three_joined : (o0 o1 o2 o3 a b d t : List ℕ) → o1 ≡ o0 ++ a → o2 ≡ o1 ++ b → o3 ≡ o2 ++ d → t ≡ a ++ (b ++ d) → o3 ≡ o0 ++ t
+three_joined o0 o1 o2 o3 a b d t p q r s =
+    r ∙ ap (λ (x : List ℕ). x ++ d) (q ∙ ap (λ (x : List ℕ). x ++ b) p) ∙ append_assoc (o0 ++ a) b d ∙ append_assoc o0 a (b ++ d) ∙ ap (λ (x : List ℕ). o0 ++ x) (sym s)

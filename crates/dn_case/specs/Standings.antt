@@ -1,5 +1,5 @@
 -- What the lines so far say, and the causes that hold for a further line.
-use Rattle.std.specs.Prelude.{ℕ, zero, suc, ◌+◌, ◌-◌, ◌*◌, ◌%◌, ◌^◌, List, [], ◌∷◌, ◌++◌, length, Bool, true, false, ◌&&◌, ◌||◌, not, ◌==◌, nat_eq, nat_le, nat_lt, if◌then◌else◌, Option, Some, None, is_some, unwrap_or, slice_get, Result, Ok, Err}
+use Rattle.std.specs.Prelude.{ℕ, zero, suc, ◌+◌, ◌*◌, ◌^◌, List, [], ◌∷◌, ◌++◌, length, Bool, true, false, ◌&&◌, ◌||◌, not, nat_eq, nat_le, nat_lt, if◌then◌else◌, Option, Some, None, is_some, unwrap_or, slice_get, Result, Ok, Err}
 use Rattle.std.specs.Option.{option_map_or}
 use Rattle.std.specs.Cmp.Lexicographic.{pointwise}
 use Rattle.dn_guest.specs.declared.input.Input.{Input}
@@ -15,6 +15,7 @@ use Rattle.dn_model.specs.Links.{ports_of}
 use Rattle.dn_text.specs.declared.decimals.Number.{Number}
 use Rattle.dn_text.specs.declared.decimals.Number.TheVariants.{Is, Beyond}
 use Rattle.dn_text.specs.Hexadecimals.{unhex}
+use Rattle.dn_net.specs.Networks.{is_network}
 use Rattle.dn_case.specs.declared.shape.Net.{Net}
 use Rattle.dn_case.specs.declared.standing.Standing.{Standing}
 use Rattle.dn_case.specs.declared.place.Place.{Place}
@@ -103,7 +104,7 @@ has_net net prefixes = has_prefix (address net) (value net.len) prefixes
 
 -- the address has bits past its length
 unfoldable pub has_host_bits : Net → Bool
-has_host_bits net = not (address net % 2 ^ (32 - value net.len) == 0)
+has_host_bits net = not (is_network (address net) (value net.len))
 
 -- the group of the last external, or this one where there is none
 abbrev pub last_group : ℕ → List External → ℕ

@@ -65,7 +65,7 @@ impl From<AllocError> for CaseError {
 }
 
 /// Why a line isn't taken.
-#[derive(Debug, Drop)]
+#[derive(Drop)]
 pub enum LineError {
     Bad(Cause),
     NoMemory,

@@ -7,7 +7,7 @@ ghost use Rattle.dn_case.specs.Standings.{is_end, place_of, may_follow};
 use crate::shape::Shape;
 
 /// The last line so far.
-#[derive(Clone, Copy, Debug)]
+#[derive(Clone, Copy)]
 pub enum Place {
     Start,
     Version,

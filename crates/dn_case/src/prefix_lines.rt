@@ -11,6 +11,7 @@ use crate::place::Place;
 use crate::shape::Net;
 use crate::standing::Standing;
 use dn_model::{Kind, Prefix, RouterDef};
+use dn_net::is_network;
 use dn_text::Number;
 
 impl Standing {
@@ -92,8 +93,7 @@ fn has_host_bits(net: Net) -> bool
     requires { IsTrue (net_fits net) }
     ensures { result ≡ has_host_bits net }
 {
-    let size = 1u64 << (32 - narrow_u32(net.len));
-    !(u64::from(address(net)) % size == 0)
+    !is_network(address(net), narrow_u8(net.len))
 }
 
 /// The first cause of a prefix that depends on its router, where its numbers fit.

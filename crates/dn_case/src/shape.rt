@@ -1,16 +1,16 @@
 //! What a line says, by its words, the number of its fields and their spelling alone.
 
-ghost use Rattle.std.specs.Prelude.{◌≡◌, IfSome, IsTrue, nat_eq, codes};
+ghost use Rattle.std.specs.Prelude.{◌≡◌, ◌∷◌, [], IfSome, IsTrue, nat_eq, codes};
 ghost use Rattle.std.specs.Option.{option_map, option_copied};
 ghost use Rattle.dn_model.specs.Names.{is_name};
 ghost use Rattle.dn_text.specs.Lines.{parts};
-ghost use Rattle.dn_case.specs.Shapes.{IsNamed, line, ask, is_word, name_of, kind_of, address_of, net_of, one_field, two_fields, three_fields, group_of, ask_of, four_fields, five_fields, line_of_fields, before_newline, line_of};
+ghost use Rattle.dn_case.specs.Shapes.{IsNamed, line, ask, is_word, name_of, kind_of, address_of, net_of_parts, net_of, one_field, two_fields, three_fields, group_of, ask_of, four_fields, five_fields, line_of_fields, before_newline, line_of};
 
 use dn_model::{Kind, is_name};
 use dn_text::{Number, first_part, is_hex, numeral};
 
 /// A.B.C.D/LEN, as it is spelled.
-#[derive(Clone, Copy, Debug)]
+#[derive(Clone, Copy)]
 pub struct Net {
     pub a: Number,
     pub b: Number,
@@ -20,14 +20,14 @@ pub struct Net {
 }
 
 /// What an external line asks. A command stays in hexadecimal.
-#[derive(Clone, Copy, Debug)]
+#[derive(Clone, Copy)]
 pub enum Asked<'a> {
     Cmd(&'a [u8]),
     Down(Number),
     Up(Number),
 }
 
-#[derive(Clone, Copy, Debug)]
+#[derive(Clone, Copy)]
 pub enum Shape<'a> {
     Version(Number),
     Period(Number),
@@ -70,6 +70,12 @@ fn kind_of(text: &[u8]) -> Option<Kind>
     }
 }
 
+fn four_numbers(a: &[u8], b: &[u8], c: &[u8], d: &[u8]) -> Option<(Number, Number, Number, Number)>
+    ensures { result ≡ address_of (a.now ∷ b.now ∷ c.now ∷ d.now ∷ []) }
+{
+    Some((numeral(a)?, numeral(b)?, numeral(c)?, numeral(d)?))
+}
+
 fn address_of(text: &[u8]) -> Option<(Number, Number, Number, Number)>
     ensures { result ≡ address_of (parts 46 text.now) }
 {
@@ -78,9 +84,17 @@ fn address_of(text: &[u8]) -> Option<(Number, Number, Number, Number)>
     let (c, rest) = first_part(b'.', rest?);
     let (d, rest) = first_part(b'.', rest?);
     match rest {
-        None => Some((numeral(a)?, numeral(b)?, numeral(c)?, numeral(d)?)),
+        None => four_numbers(a, b, c, d),
         Some(_rest) => None,
     }
+}
+
+fn net_of_parts(address: &[u8], len: &[u8]) -> Option<Net>
+    ensures { result ≡ net_of_parts (address.now ∷ len.now ∷ []) }
+{
+    let (a, b, c, d) = address_of(address)?;
+    let len = numeral(len)?;
+    Some(Net { a, b, c, d, len })
 }
 
 #[tactic(auto, unfolding(crate::specs::Shapes::net_of))]
@@ -90,11 +104,7 @@ fn net_of(text: &[u8]) -> Option<Net>
     let (address, rest) = first_part(b'/', text);
     let (len, rest) = first_part(b'/', rest?);
     match rest {
-        None => {
-            let (a, b, c, d) = address_of(address)?;
-            let len = numeral(len)?;
-            Some(Net { a, b, c, d, len })
-        }
+        None => net_of_parts(address, len),
         Some(_rest) => None,
     }
 }
@@ -118,14 +128,15 @@ fn two_fields<'a>(word: &'a [u8], field: &'a [u8]) -> Option<Shape<'a>>
     ensures read { option_map line result ≡ two_fields word.now field.now }
     ensures named { IfSome result (λ shape. IsNamed (line shape)) }
 {
+    let n = numeral(field)?;
     if is_word(word, b"defined") {
-        Some(Shape::Version(numeral(field)?))
+        Some(Shape::Version(n))
     } else if is_word(word, b"period") {
-        Some(Shape::Period(numeral(field)?))
+        Some(Shape::Period(n))
     } else if is_word(word, b"groups") {
-        Some(Shape::Groups(numeral(field)?))
+        Some(Shape::Groups(n))
     } else if is_word(word, b"seed") {
-        Some(Shape::Seed(numeral(field)?))
+        Some(Shape::Seed(n))
     } else {
         None
     }

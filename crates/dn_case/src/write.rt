@@ -11,6 +11,7 @@ ghost use Rattle.dn_case.specs.Spelling.{IsFromOutside, kind_word, net_of_prefix
 
 use dn_guest::{Bytes, Input, NoMemory};
 use dn_model::{Case, External, Feed, Header, Kind, Link, Prefix, RouterDef};
+use dn_net::push_network;
 use dn_text::Piece::{Decimal, Hex, Text};
 use dn_text::append_all;
 
@@ -116,31 +117,15 @@ fn push_links(out: &mut Bytes, routers: &[RouterDef], links: &[Link]) -> Result<
     Ok(())
 }
 
-#[tactic(auto, unfolding(crate::specs::Spelling::spelled))]
 fn push_prefix(out: &mut Bytes, name: &[u8], prefix: &Prefix) -> Result<(), NoMemory>
     ensures ok { OnOk result (out.new ≡ out.old ++ spelled (prefix_line name.now prefix.now)) }
     ensures kept { KeepsFront out.old out.new }
 {
-    let address = u64::from(prefix.address);
+    append_all(out, &[Text(b"prefix "), Text(name), Text(b" ")])?;
+    push_network(prefix.address, prefix.len, out)?;
     append_all(
         out,
-        &[
-            Text(b"prefix "),
-            Text(name),
-            Text(b" "),
-            Decimal(address / 16_777_216),
-            Text(b"."),
-            Decimal(address / 65_536 % 256),
-            Text(b"."),
-            Decimal(address / 256 % 256),
-            Text(b"."),
-            Decimal(address % 256),
-            Text(b"/"),
-            Decimal(u64::from(prefix.len)),
-            Text(b" "),
-            Decimal(u64::from(prefix.cost)),
-            Text(b"\n"),
-        ],
+        &[Text(b" "), Decimal(u64::from(prefix.cost)), Text(b"\n")],
     )
 }
 
