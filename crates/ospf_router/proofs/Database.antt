@@ -16,11 +16,10 @@ use Rattle.ospf_lsdb.specs.declared.kept.Kept.{Kept}
 use Rattle.ospf_lsdb.specs.Keys.{key_cmp}
 use Rattle.ospf_lsdb.specs.Kept.{with_max_age, reaches_max_age}
 use Rattle.ospf_lsdb.specs.Database.{Database, aged, changed, kept_at, with_kept, without}
-use Rattle.ospf_lsdb.proofs.DatabaseLaws.{exact_keys}
+use Rattle.ospf_lsdb.proofs.DatabaseLaws.{exact_keys, key_cmp_total}
 use Rattle.ospf_flood.specs.Retransmission.{OnPort, OnPorts, list_of, without_lsa, without_lsa_anywhere, last_sent, with_lsa}
 use Rattle.ospf_flood.specs.Flooding.{put_from}
 use Rattle.ospf_router.specs.Sound.{IsSoundDatabase, IsSoundEntry, IsSoundList, most}
-use Rattle.ospf_flood.proofs.RetransmissionLaws.{key_cmp_total}
 use Rattle.ospf_router.proofs.Rising.{all_more, each-insert, each-remove, finds-insert, finds-remove, is_eq-true, length-insert, length-remove, one, rises-insert, rises-remove}
 
 abbrev pub Has : Database → LsaKey → Type 0

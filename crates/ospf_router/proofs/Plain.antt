@@ -18,7 +18,7 @@ use Rattle.ospf_lsdb.specs.Keys.{key_cmp, own_key}
 use Rattle.ospf_lsdb.specs.Kept.{age_of}
 use Rattle.ospf_lsdb.specs.Database.{Database, kept_at}
 use Rattle.ospf_flood.specs.Retransmission.{OnPort}
-use Rattle.ospf_flood.proofs.RetransmissionLaws.{key_cmp_total}
+use Rattle.ospf_lsdb.proofs.DatabaseLaws.{key_cmp_total}
 use Rattle.ospf_router.specs.State.{OspfState}
 use Rattle.ospf_router.specs.Sound.{IsSoundEntry, IsSoundList, IsSoundState}
 use Rattle.ospf_router.specs.BuildUpdates.{copy_of, is_sendable, of_age, sent_age}

@@ -19,7 +19,7 @@ use Rattle.ospf_flood.specs.Retransmission.{list_of, without_lsa, without_lsa_an
 use Rattle.ospf_flood.specs.Flooding.{State, flooded, note_flooded}
 use Rattle.ospf_flood.specs.Verdicts.{receive_table, has_right_sum, is_router_lsa, verdict_of}
 use Rattle.ospf_flood.specs.Receiving.{apply_verdict, flushed, installed, is_own_router_lsa, is_other_self_originated, received, flood_received, to_install}
-use Rattle.ospf_flood.proofs.RetransmissionLaws.{key_cmp_total}
+use Rattle.ospf_lsdb.proofs.DatabaseLaws.{key_cmp_total}
 use Rattle.ospf_router.specs.Sound.{IsSoundDatabase, IsSoundEntry, IsSoundList}
 use Rattle.ospf_router.specs.BuildUpdates.{is_sendable}
 use Rattle.ospf_router.proofs.Choice.{choose}

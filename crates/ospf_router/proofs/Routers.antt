@@ -18,7 +18,7 @@ use Rattle.ospf_lsdb.specs.Database.{Database, aged, changed, reaching_max_age, 
 use Rattle.ospf_flood.specs.Retransmission.{OnPort, due, list_of, without_lsa, with_lsa}
 use Rattle.ospf_flood.specs.Flooding.{State, flooded, state}
 use Rattle.ospf_flood.specs.Receiving.{received}
-use Rattle.ospf_flood.proofs.RetransmissionLaws.{key_cmp_total}
+use Rattle.ospf_lsdb.proofs.DatabaseLaws.{key_cmp_total}
 use Rattle.ospf_router.specs.declared.neighbour.Neighbour.{Neighbour}
 use Rattle.ospf_router.specs.declared.neighbour.Neighbour.TheVariants.{Down, Init, Full}
 use Rattle.ospf_router.specs.declared.router.Router.{Router}

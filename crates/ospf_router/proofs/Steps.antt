@@ -27,7 +27,7 @@ use Rattle.ospf_lsdb.specs.Keys.{key_cmp, own_key}
 use Rattle.ospf_lsdb.specs.Kept.{fresh}
 use Rattle.ospf_lsdb.specs.Database.{Database, max_age_lsas, kept_at, own_lsa, next_sequence_number, with_kept, with_own, without}
 use Rattle.ospf_flood.specs.Retransmission.{OnPorts, without_lsa, without_lsa_anywhere}
-use Rattle.ospf_flood.proofs.RetransmissionLaws.{key_cmp_total}
+use Rattle.ospf_lsdb.proofs.DatabaseLaws.{key_cmp_total}
 use Rattle.ospf_router.specs.declared.router.Router.{Router}
 use Rattle.ospf_router.specs.Commands.{commanded, is_removal, is_setting}
 use Rattle.ospf_router.specs.Interfaces.{AtPorts, full_mask, has_port, is_listed, neighbour_down, opening_port}
