@@ -15,7 +15,6 @@
 //! | `fletcher.rt` | the LS checksum of an LSA |
 //! | `instances.rt` | which instance of an LSA is the newer |
 //! | `fields.rt` | numbers in bytes, the highest byte first |
-//! | `masks.rt` | network masks |
 //! | `laws.rt` | laws of the definitions |
 //!
 //! The one contract upwards: `decode` gives the packet exactly where the bytes are one of the grammar
@@ -33,7 +32,6 @@ mod instances;
 mod laws;
 mod link_state_update;
 mod lsa;
-mod masks;
 mod packet;
 mod packet_lists;
 mod packet_sum;
@@ -53,7 +51,6 @@ pub use laws::{
     written_router_links_are_read,
 };
 pub use lsa::{Lsa, LsaHeader};
-pub use masks::network_mask;
 pub use packet::{Body, Packet, decode, encode};
 pub use packet_lists::{Ids, LsaHeaders, Lsas, RouterLinks};
 pub use packet_sum::ip_sum;
