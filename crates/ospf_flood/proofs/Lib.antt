@@ -1,3 +1,4 @@
 pub mod RetransmissionLaws
 pub mod FloodLaws
 pub mod VerdictLaws
+pub mod OneLsa

@@ -7,25 +7,14 @@ use Rattle.std.specs.List.{AllByRecursion}
 use Rattle.std.specs.List.Sorted.{IsStrictlySortedBy}
 use Rattle.std.specs.declared.cmp.Ordering.{Ordering}
 use Rattle.std.specs.declared.cmp.Ordering.TheVariants.{Less, Equal, Greater}
-use Rattle.std.specs.Cmp.{IsTotalOrder, nat_cmp_total, then_total, on_total, tied_itself}
 use Rattle.std.proofs.lemmas.Option.{none-some}
 use Rattle.std.proofs.lemmas.Map.{NonePasses, lookup-none}
 use Rattle.std.proofs.lemmas.Map.Entries.{none_below_head}
 use Rattle.std.proofs.lemmas.Map.Keys.{sorted_head, sorted_tail}
 use Rattle.ospf_lsdb.specs.declared.key.LsaKey.{LsaKey}
 use Rattle.ospf_lsdb.specs.Keys.{key_cmp}
-use Rattle.ospf_lsdb.proofs.DatabaseLaws.{exact_keys}
+use Rattle.ospf_lsdb.proofs.DatabaseLaws.{exact_keys, key_cmp_total, same_key}
 use Rattle.ospf_flood.specs.Retransmission.{OnPort, last_sent, with_lsa, without_lsa, restored}
-
--- ---- the order of the names
-
-pub key_cmp_total : IsTotalOrder key_cmp
-key_cmp_total =
-    then_total (on_total (λ (k : LsaKey). k.kind) nat_cmp_total)
-    (then_total (on_total (λ (k : LsaKey). k.id) nat_cmp_total) (on_total (λ (k : LsaKey). k.router) nat_cmp_total))
-
-pub same_key : (k : LsaKey) → key_cmp k k ≡ Equal
-same_key k = tied_itself key_cmp_total k
 
 abbrev pub IsRising : OnPort → Type 0
 IsRising l = IsStrictlySortedBy key_cmp (keys_of l)

@@ -9,6 +9,7 @@
 //! | `verdict.rt` | `Verdict`, and the table by which an LSA is judged |
 //! | `receiving.rt` | `receive`: the verdict, and what it does to the database and the lists |
 //! | `flooding.rt` | `flood`: an LSA is put on the lists of several ports, or on none where memory is short |
+//! | `laws.rt` | laws of the definitions |
 //!
 //! The one contract upwards: `receive` answers the verdict of the table in `specs/Verdicts.antt` and leaves
 //! the database and the lists that `specs/Receiving.antt` says, or, where memory is short, those that were
@@ -16,6 +17,7 @@
 #![tactic(auto)]
 
 mod flooding;
+mod laws;
 mod port_masks;
 mod receiving;
 mod retransmission;
@@ -23,6 +25,7 @@ mod retransmission_list;
 mod verdict;
 
 pub use flooding::flood;
+pub use laws::{a_change_is_on_its_ports, a_list_changes_at_one_lsa, receiving_is_at_one_lsa};
 pub use port_masks::{only_port, with_port, without_port};
 pub use receiving::{Step, receive};
 pub use retransmission::Lists;

@@ -7,7 +7,9 @@ use Rattle.ospf_wire.specs.declared.lsa.LsaHeader.{LsaHeader}
 use Rattle.ospf_lsdb.specs.declared.key.LsaKey.{LsaKey}
 use Rattle.ospf_lsdb.specs.declared.kept.Kept.{Kept}
 use Rattle.ospf_lsdb.specs.Database.{Database}
-use Rattle.ospf_guest.specs.Image.{two, four, eight, one_more, bit, head_image, is_named, is_plain, flags_byte, odd_image, sent_image, kept_image, database_image}
+use Rattle.ospf_guest.specs.Numbers.{two, four, eight, one_more, bit}
+use Rattle.ospf_guest.specs.PlainImage.{head_image}
+use Rattle.ospf_guest.specs.Image.{is_named, is_plain, flags_byte, odd_image, sent_image, kept_image, database_image}
 use Rattle.ospf_guest.specs.Prefixfree.{IsFree, same_parts, regrouped, free_two, free_four, free_eight, same_one_more, same_bit, bit_small, free_key, same_list}
 
 -- ---- headers

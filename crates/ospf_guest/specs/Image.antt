@@ -1,60 +1,21 @@
--- Bytes that tell the whole state. The highest byte of a number has all that the others don't hold, so that two numbers
--- of any size have two images; each number that a router keeps fits its bytes. What no router has is told apart too:
--- lists of more than 65,535 LSAs, and LSAs that aren't plain (below).
-use Rattle.std.specs.Prelude.{ℕ, ◌+◌, ◌*◌, ◌/◌, ◌%◌, ◌^◌, ◌==◌, ◌&&◌, Bool, true, false, nat_le, nat_lt, min, if◌then◌else◌, List, [], ◌∷◌, ◌++◌, length, flat_map, Option, Some, None}
+-- Bytes that tell the whole state, whatever it is: the plain image (PlainImage.antt), and marks of what no router has, so
+-- that such states are told apart too: lists of more than 65,535 LSAs, and LSAs that aren't plain (below).
+use Rattle.std.specs.Prelude.{ℕ, ◌+◌, ◌*◌, ◌^◌, ◌==◌, ◌&&◌, Bool, false, nat_le, nat_lt, min, if◌then◌else◌, List, [], ◌∷◌, ◌++◌, length, flat_map}
 use Rattle.ospf_wire.specs.declared.lsa.LsaHeader.{LsaHeader}
 use Rattle.ospf_lsdb.specs.declared.key.LsaKey.{LsaKey}
 use Rattle.ospf_lsdb.specs.declared.kept.Kept.{Kept}
 use Rattle.ospf_lsdb.specs.Database.{Database}
 use Rattle.ospf_flood.specs.Retransmission.{OnPort, OnPorts}
-use Rattle.ospf_router.specs.declared.neighbour.Neighbour.{Neighbour}
-use Rattle.ospf_router.specs.declared.neighbour.Neighbour.TheVariants.{Down, Init, Full}
 use Rattle.ospf_router.specs.declared.interfaces.Port.{Port}
 use Rattle.ospf_router.specs.Interfaces.{AtPorts}
-use Rattle.ospf_router.specs.Prefixes.{Network, Networks}
 use Rattle.ospf_router.specs.State.{OspfState}
-
--- two, four and eight bytes of a number
-abbrev pub two : ℕ → List ℕ
-two n = n / 2 ^ 8 ∷ n % 2 ^ 8 ∷ []
-
-abbrev pub four : ℕ → List ℕ
-four n = n / 2 ^ 24 ∷ n / 2 ^ 16 % 2 ^ 8 ∷ n / 2 ^ 8 % 2 ^ 8 ∷ n % 2 ^ 8 ∷ []
-
-unfoldable pub eight : ℕ → List ℕ
-eight n = four (n / 2 ^ 32) ++ four (n % 2 ^ 32)
-
--- 0 for none, and one more than the number
-abbrev pub one_more : Option ℕ → ℕ
-one_more None = 0
-one_more (Some n) = n + 1
-
-abbrev pub bit : Bool → ℕ
-bit false = 0
-bit true = 1
-
--- an own network: address 4, length 1, cost 2
-unfoldable pub network_image : Network × ℕ → List ℕ
-network_image e = four e.0.0 ++ e.0.1 ∷ two e.1
+use Rattle.ospf_guest.specs.Numbers.{two, four, eight, one_more, bit}
+use Rattle.ospf_guest.specs.PlainImage.{front_image, networks_image, state_byte, heard_image, listed_image, head_image}
 
 -- ---- ports
 
--- the state of a neighbour, its id and when it was heard
-abbrev pub state_byte : Neighbour → ℕ
-state_byte Down = 0
-state_byte (Init h) = 1
-state_byte (Full h) = 2
-
-abbrev pub heard_image : Neighbour → List ℕ
-heard_image Down = four 0 ++ four 0
-heard_image (Init h) = four h.id ++ four h.tick
-heard_image (Full h) = four h.id ++ four h.tick
-
--- an LSA on a list: type 1, id 4, router 4, sent 4
-unfoldable pub listed_image : LsaKey × ℕ → List ℕ
-listed_image e = e.0.kind ∷ four e.0.id ++ four e.0.router ++ four e.1
-
--- a port with a list of more than 65,535 LSAs, which no router has, adds 3 to the state and has a count of 8 bytes
+-- a port with a list of more than 65,535 LSAs, which no router has, adds 3 to the neighbour's state and has a count of
+-- 8 bytes
 abbrev pub is_long : OnPort → Bool
 is_long l = nat_lt 65535 (length l)
 
@@ -76,10 +37,6 @@ ports_image (p ∷ ps) [] = []
 ports_image (p ∷ ps) (l ∷ ls) = port_image p l ++ ports_image ps ls
 
 -- ---- the database
-
--- a header: age 2, options 1, type 1, id 4, router 4, sequence 4, checksum 2, length 2
-unfoldable pub head_image : LsaHeader → List ℕ
-head_image h = two h.age ++ h.options ∷ h.kind ∷ four h.id ++ four h.router ++ four h.seq ++ two h.sum ++ two h.length
 
 -- the header has this name
 abbrev pub is_named : LsaKey → LsaHeader → Bool
@@ -113,14 +70,6 @@ unfoldable pub database_image : Database → List ℕ
 database_image db = two (min 65535 (length db)) ++ flat_map kept_image db
 
 -- ---- the whole
-
--- number 2, tick 4, the tick after that of the last origination 4, 0 where there was none
-unfoldable pub front_image : ℕ → ℕ → Option ℕ → List ℕ
-front_image number tick originated = two number ++ four tick ++ four (one_more originated)
-
--- count 2, and each own network
-unfoldable pub networks_image : Networks → List ℕ
-networks_image ns = two (length ns) ++ flat_map network_image ns
 
 -- a router has at most 16 ports, and as many lists
 abbrev pub is_sound : AtPorts → Bool

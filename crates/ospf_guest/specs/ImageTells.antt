@@ -2,7 +2,9 @@
 use Rattle.std.specs.Prelude.{◌≡◌, ℕ, List, ◌++◌, length, flat_map, Option}
 use Rattle.std.proofs.Common.{sym, ◌∙◌}
 use Rattle.ospf_router.specs.State.{OspfState}
-use Rattle.ospf_guest.specs.Image.{four, one_more, network_image, front_image, networks_image, interfaces_image, database_image, ospf_image}
+use Rattle.ospf_guest.specs.Numbers.{four, one_more}
+use Rattle.ospf_guest.specs.PlainImage.{network_image, front_image, networks_image}
+use Rattle.ospf_guest.specs.Image.{interfaces_image, database_image, ospf_image}
 use Rattle.ospf_guest.specs.Prefixfree.{IsFree, regrouped, free_two, free_four, free_list, free_network, same_one_more}
 use Rattle.ospf_guest.specs.PortTells.{free_interfaces}
 use Rattle.ospf_guest.specs.DatabaseTells.{same_database}

@@ -1,4 +1,6 @@
 -- the image, the show and the guest
+pub mod Numbers
+pub mod PlainImage
 pub mod Image
 pub mod Show
 pub mod Ospf

@@ -7,7 +7,9 @@ use Rattle.ospf_router.specs.declared.neighbour.Neighbour.{Neighbour}
 use Rattle.ospf_router.specs.declared.neighbour.Neighbour.TheVariants.{Down, Init, Full}
 use Rattle.ospf_router.specs.declared.interfaces.Port.{Port}
 use Rattle.ospf_router.specs.Interfaces.{AtPorts}
-use Rattle.ospf_guest.specs.Image.{two, four, eight, bit, state_byte, heard_image, listed_image, is_long, count_image, port_front, port_image, ports_image, is_sound, unsound_image, interfaces_image}
+use Rattle.ospf_guest.specs.Numbers.{two, four, eight, bit}
+use Rattle.ospf_guest.specs.PlainImage.{state_byte, heard_image, listed_image}
+use Rattle.ospf_guest.specs.Image.{is_long, count_image, port_front, port_image, ports_image, is_sound, unsound_image, interfaces_image}
 use Rattle.ospf_guest.specs.Prefixfree.{IsFree, regrouped, free_two, free_four, free_eight, free_list, free_listed}
 
 -- ---- neighbours

@@ -2,7 +2,8 @@
 use Rattle.std.specs.Prelude.{◌≡◌, ℕ, ◌/◌, ◌%◌, ◌^◌, ◌≤◌, Bool, true, false, List, [], ◌∷◌, ◌++◌, length, flat_map, Option, Some, None, refl}
 use Rattle.std.proofs.Common.{arith, append_assoc, ap, sym, ◌∙◌}
 use Rattle.ospf_lsdb.specs.declared.key.LsaKey.{LsaKey}
-use Rattle.ospf_guest.specs.Image.{two, four, eight, one_more, bit, network_image, listed_image}
+use Rattle.ospf_guest.specs.Numbers.{two, four, eight, one_more, bit}
+use Rattle.ospf_guest.specs.PlainImage.{network_image, listed_image}
 
 abbrev pub IsFree : {A : Type 0} → (A → List ℕ) → Type 0
 IsFree {A} f = (x y : A) (u v : List ℕ) → f x ++ u ≡ f y ++ v → (x ≡ y) × (u ≡ v)

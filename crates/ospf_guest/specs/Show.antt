@@ -1,8 +1,9 @@
 -- Lines that tell a reader of neighbours and routes.
-use Rattle.std.specs.Prelude.{ℕ, ◌+◌, ◌/◌, ◌%◌, ◌^◌, ◌==◌, ◌&&◌, Bool, not, nat_le, if◌then◌else◌, List, [], ◌∷◌, ◌++◌, length, flat_map, codes}
+use Rattle.std.specs.Prelude.{ℕ, ◌+◌, ◌==◌, ◌&&◌, Bool, not, nat_le, if◌then◌else◌, List, [], ◌∷◌, ◌++◌, length, flat_map, codes}
 use Rattle.std.specs.List.{range_with_len}
 use Rattle.std.specs.Fmt.{decimal}
 use Rattle.dn_guest.specs.Ports.{is_up}
+use Rattle.dn_net.specs.Texts.{network_text}
 use Rattle.ospf_lsdb.specs.Database.{Database}
 use Rattle.ospf_spf.specs.declared.route.Route.{Route}
 use Rattle.ospf_spf.specs.Graph.{graph_of}
@@ -23,12 +24,6 @@ abbrev pub neighbour_lines : ℕ → List Port → List ℕ
 neighbour_lines p [] = []
 neighbour_lines p (x ∷ xs) = neighbour_line p x.neighbour ++ neighbour_lines (p + 1) xs
 
--- the four bytes of an address, in decimal with points between them
-unfoldable pub address_text : ℕ → List ℕ
-address_text address =
-    decimal (address / 2 ^ 24) ++ codes "." ++ decimal (address / 2 ^ 16 % 2 ^ 8) ++ codes "."
-    ++ decimal (address / 2 ^ 8 % 2 ^ 8) ++ codes "." ++ decimal (address % 2 ^ 8)
-
 -- a space and a port, if it is one of the mask
 abbrev pub port_text : ℕ → ℕ → List ℕ
 port_text mask p = if is_up mask p then 32 ∷ decimal p else []
@@ -44,7 +39,7 @@ where_text own mask = if not own && mask == 0 then 32 ∷ [] else (if own then c
 -- `route A.B.C.D/LEN COST via`
 unfoldable pub route_front : Route → List ℕ
 route_front r =
-    codes "route " ++ address_text r.prefix ++ codes "/" ++ decimal r.len ++ codes " " ++ decimal r.cost ++ codes " via"
+    codes "route " ++ network_text r.prefix r.len ++ codes " " ++ decimal r.cost ++ codes " via"
 
 -- `route A.B.C.D/LEN COST via WHERE`
 unfoldable pub route_line : Route → List ℕ

@@ -3,7 +3,9 @@
 ghost use Rattle.std.specs.Prelude.{◌≡◌, ◌++◌, ◌≤◌, ◌^◌, OnOk};
 ghost use Rattle.std.specs.List.{flat_map};
 ghost use Rattle.dn_guest.specs.KeepsFront.{KeepsFront};
-ghost use Rattle.ospf_guest.specs.Image.{bit, database_image, flags_byte, head_image, is_named, is_plain, kept_image, odd_image, one_more, sent_image};
+ghost use Rattle.ospf_guest.specs.Numbers.{bit, one_more};
+ghost use Rattle.ospf_guest.specs.PlainImage.{head_image};
+ghost use Rattle.ospf_guest.specs.Image.{database_image, flags_byte, is_named, is_plain, kept_image, odd_image, sent_image};
 
 use crate::image::{four, push_eight, two};
 use dn_guest::Bytes;
@@ -15,7 +17,7 @@ use std::alloc::AllocError;
 const ODD: u8 = 4;
 
 /// The bytes of a header.
-#[tactic(auto, unfolding(crate::specs::Image::head_image))]
+#[tactic(auto, unfolding(crate::specs::PlainImage::head_image))]
 fn head_image(head: LsaHeader) -> [u8; 20]
     ensures { result ≡ head_image head }
 {

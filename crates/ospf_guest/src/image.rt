@@ -5,7 +5,9 @@ ghost use Rattle.std.specs.Prelude.{◌≡◌, ◌++◌, OnOk, ◌≤◌, length
 ghost use Rattle.std.specs.List.{flat_map};
 ghost use Rattle.dn_guest.specs.KeepsFront.{KeepsFront};
 ghost use Rattle.ospf_router.specs.State.{state_of};
-ghost use Rattle.ospf_guest.specs.Image.{eight, four, front_image, interfaces_image, network_image, networks_image, one_more, ospf_image, two};
+ghost use Rattle.ospf_guest.specs.Numbers.{eight, four, one_more, two};
+ghost use Rattle.ospf_guest.specs.PlainImage.{front_image, network_image, networks_image};
+ghost use Rattle.ospf_guest.specs.Image.{interfaces_image, ospf_image};
 
 use crate::database_image::push_database;
 use crate::ports_image::push_ports;
@@ -33,7 +35,7 @@ pub fn four(n: u32) -> [u8; 4]
 }
 
 /// Appends the eight bytes of a number, the highest first.
-#[tactic(auto, unfolding(crate::specs::Image::eight))]
+#[tactic(auto, unfolding(crate::specs::Numbers::eight))]
 pub fn push_eight(n: u64, out: &mut Bytes) -> Result<(), AllocError>
     ensures ok { OnOk result (out.new ≡ out.old ++ eight n) }
     ensures kept { KeepsFront out.old out.new }
@@ -53,7 +55,7 @@ fn one_more(n: Option<u16>) -> u32
 }
 
 /// The seven bytes of an own network.
-#[tactic(auto, unfolding(crate::specs::Image::network_image))]
+#[tactic(auto, unfolding(crate::specs::PlainImage::network_image))]
 fn network_image(address: u32, len: u8, cost: u16) -> [u8; 7]
     ensures { result ≡ network_image ((address, len), cost) }
 {
@@ -76,7 +78,7 @@ fn push_networks(networks: &[((u32, u8), u16)], out: &mut Bytes) -> Result<(), A
 }
 
 /// The ten bytes of the number, the tick, and the tick after that of the last origination.
-#[tactic(auto, unfolding(crate::specs::Image::front_image))]
+#[tactic(auto, unfolding(crate::specs::PlainImage::front_image))]
 fn front_image(number: u16, tick: u16, originated: Option<u16>) -> [u8; 10]
     ensures { result ≡ front_image number tick originated }
 {
@@ -90,7 +92,7 @@ fn front_image(number: u16, tick: u16, originated: Option<u16>) -> [u8; 10]
 }
 
 /// Appends the own networks behind their number.
-#[tactic(auto, unfolding(crate::specs::Image::networks_image))]
+#[tactic(auto, unfolding(crate::specs::PlainImage::networks_image))]
 fn push_prefixes(alloc: Global, prefixes: &Prefixes, out: &mut Bytes) -> Result<(), AllocError>
     ensures ok { OnOk result (out.new ≡ out.old ++ networks_image prefixes.now) }
     ensures kept { KeepsFront out.old out.new }

@@ -6,11 +6,17 @@ ghost use Rattle.ospf_spf.specs.Graph.{graph_of};
 ghost use Rattle.ospf_spf.specs.Table.{table_of};
 ghost use Rattle.ospf_router.specs.Sound.{IsSoundState};
 ghost use Rattle.ospf_router.specs.State.{OspfState};
-ghost use Rattle.ospf_guest.specs.Image.{is_long, is_plain, is_sound};
+ghost use Rattle.ospf_guest.specs.PlainImage.{plain_image};
+ghost use Rattle.ospf_guest.specs.Image.{is_long, is_plain, is_sound, ospf_image};
 ghost use Rattle.ospf_guest.specs.Show.{route_line, route_lines};
 
-/// What the image marks is in no sound state, and such a state's routes are shown. That a router reaches
-/// sound states alone is the law `sound_states` of `ospf_router`.
+/// The image of a sound state is the plain one (specs/PlainImage.antt). That a router reaches sound states alone is
+/// the law `sound_states` of `ospf_router`.
+pub fn sound_states_have_the_plain_image()
+    ensures { (s : OspfState) → IsSoundState s → ospf_image s ≡ plain_image s }
+{}
+
+/// What the image marks is in no sound state, and such a state's routes are shown.
 pub fn sound_states_are_told_plainly()
     ensures ports { (s : OspfState) → IsSoundState s → is_sound s.interfaces ≡ true }
     ensures lists { (s : OspfState) → IsSoundState s → AllByRecursion (λ l. is_long l ≡ false) s.interfaces.lists }

@@ -7,10 +7,11 @@
 //! | `image.rt` | the bytes that tell the state |
 //! | `ports_image.rt`, `database_image.rt` | their parts for the ports and for the database |
 //! | `show.rt` | the lines that tell neighbours and routes |
-//! | `laws.rt` | that what image and show mark or leave out is in no state that a router reaches |
+//! | `laws.rt` | the plain image of each state that a router reaches, and that image and show leave nothing of it out |
 //!
 //! The one contract upwards: `Ospf` is a `Guest` of sort 1 whose meaning is `ospf` of `specs/Ospf.antt`, on
-//! plain data: the step of `ospf_router`, the image and the show of `specs/`.
+//! plain data: the step of `ospf_router`, the image and the show of `specs/`. `specs/PlainImage.antt` has the image
+//! of every state that a router reaches.
 #![tactic(auto)]
 
 mod database_image;
@@ -20,7 +21,7 @@ mod ospf;
 mod ports_image;
 mod show;
 
-pub use laws::sound_states_are_told_plainly;
+pub use laws::{sound_states_are_told_plainly, sound_states_have_the_plain_image};
 pub use ospf::Ospf;
 pub use ospf_router::{Costs, OspfSettings, PrefixList};
 pub use std::alloc::AllocError as NoMemory;

@@ -5,7 +5,9 @@ ghost use Rattle.std.specs.List.{flat_map};
 ghost use Rattle.dn_guest.specs.KeepsFront.{KeepsFront};
 ghost use Rattle.ospf_flood.specs.Retransmission.{list_of};
 ghost use Rattle.ospf_router.specs.Interfaces.{port_at};
-ghost use Rattle.ospf_guest.specs.Image.{bit, count_image, four, heard_image, is_long, listed_image, port_front, port_image, ports_image, state_byte};
+ghost use Rattle.ospf_guest.specs.Numbers.{bit, four};
+ghost use Rattle.ospf_guest.specs.PlainImage.{heard_image, listed_image, state_byte};
+ghost use Rattle.ospf_guest.specs.Image.{count_image, is_long, port_front, port_image, ports_image};
 
 use crate::image::{four, push_eight, two};
 use dn_guest::Bytes;
@@ -39,7 +41,7 @@ fn heard_of(neighbour: Neighbour) -> (u32, u16)
 }
 
 /// The thirteen bytes of an LSA on a list.
-#[tactic(auto, unfolding(crate::specs::Image::listed_image))]
+#[tactic(auto, unfolding(crate::specs::PlainImage::listed_image))]
 fn listed_image(key: LsaKey, tick: u32) -> [u8; 13]
     ensures { result ≡ listed_image (key, tick) }
 {

@@ -7,6 +7,7 @@ ghost use Rattle.ospf_router.specs.State.{state_of};
 ghost use Rattle.ospf_guest.specs.Show.{neighbour_line, neighbour_lines, ospf_show, port_text, port_texts, route_front, route_line, route_lines, where_text};
 
 use dn_guest::{Bytes, is_up};
+use dn_net::push_network;
 use dn_text::{Piece, append_all};
 use ospf_lsdb::Lsdb;
 use ospf_router::{Neighbour, Port, Router};
@@ -91,22 +92,14 @@ fn push_where(own: bool, mask: u16, out: &mut Bytes) -> Result<(), AllocError>
 }
 
 /// Appends the front of a route's line.
+#[tactic(auto, unfolding(crate::specs::Show::route_front))]
 fn push_front(route: Route, out: &mut Bytes) -> Result<(), AllocError>
     ensures ok { OnOk result (out.new ≡ out.old ++ route_front route) }
     ensures kept { KeepsFront out.old out.new }
 {
-    let address = route.prefix;
+    out.append(b"route ")?;
+    push_network(route.prefix, route.len, out)?;
     let pieces = [
-        Piece::Text(b"route "),
-        Piece::Decimal(u64::from(address / 0x100_0000)),
-        Piece::Text(b"."),
-        Piece::Decimal(u64::from(address / 0x1_0000 % 256)),
-        Piece::Text(b"."),
-        Piece::Decimal(u64::from(address / 256 % 256)),
-        Piece::Text(b"."),
-        Piece::Decimal(u64::from(address % 256)),
-        Piece::Text(b"/"),
-        Piece::Decimal(u64::from(route.len)),
         Piece::Text(b" "),
         Piece::Decimal(u64::from(route.cost)),
         Piece::Text(b" via"),

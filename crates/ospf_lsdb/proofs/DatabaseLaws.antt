@@ -1,4 +1,4 @@
--- Each change of the database keeps each LSA at its own name, and what is written through a look-up is a change.
+-- The order of names. Each change of the database keeps each LSA at its own name, and what is written through a look-up is a change.
 use Rattle.std.proofs.Common.{◌≡◌, ℕ, Bool, true, false, cond, [], ◌∷◌, Bor, refl, sym, ap, ◌∙◌}
 use Rattle.std.specs.Prelude.{Option, Some, None, IfSome, option_copied}
 use Rattle.std.specs.Map.{set_value}
@@ -6,6 +6,7 @@ use Rattle.std.specs.BTreeMap.{is_at}
 use Rattle.std.specs.declared.cmp.Ordering.{Ordering}
 use Rattle.std.specs.declared.cmp.Ordering.TheVariants.{Less, Equal, Greater}
 use Rattle.std.specs.Ordering.{nat_cmp, ordering_then, match_ordering, is_eq}
+use Rattle.std.specs.Cmp.{IsTotalOrder, nat_cmp_total, then_total, on_total, tied_itself}
 use Rattle.std.proofs.lemmas.Option.{none-some, same_Some}
 use Rattle.std.proofs.lemmas.Map.Lookups.{exact_unsigned}
 use Rattle.ospf_lsdb.specs.declared.key.LsaKey.{LsaKey}
@@ -34,12 +35,20 @@ exact_keys a b e =
     let router = exact_unsigned a.router b.router two.1 in
     ap (λ (k : ℕ). key_made k a.id a.router) kind ∙ ap (λ (i : ℕ). key_made b.kind i a.router) id ∙ ap (λ (r : ℕ). key_made b.kind b.id r) router
 
+pub key_cmp_total : IsTotalOrder key_cmp
+key_cmp_total =
+    then_total (on_total (λ (k : LsaKey). k.kind) nat_cmp_total)
+    (then_total (on_total (λ (k : LsaKey). k.id) nat_cmp_total) (on_total (λ (k : LsaKey). k.router) nat_cmp_total))
+
+pub same_key : (k : LsaKey) → key_cmp k k ≡ Equal
+same_key k = tied_itself key_cmp_total k
+
 is_eq-true : (o : Ordering) → is_eq o ≡ true → o ≡ Equal
 is_eq-true Less e = absurd cc
 is_eq-true Equal e = refl
 is_eq-true Greater e = absurd cc
 
-at_same : (key k : LsaKey) → is_at (key_cmp key) k ≡ true → key ≡ k
+pub at_same : (key k : LsaKey) → is_at (key_cmp key) k ≡ true → key ≡ k
 at_same key k e = exact_keys key k (is_eq-true (key_cmp key k) e)
 
 -- ---- each LSA stays at its own name

@@ -1,2 +1,3 @@
 pub mod DatabaseLaws
 pub mod Equalities
+pub mod Lookups

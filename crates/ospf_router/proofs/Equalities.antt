@@ -13,7 +13,7 @@ use Rattle.ospf_router.specs.contracts.neighbour.NeighbourPartialEq.TheImpl as n
 use Rattle.ospf_router.specs.contracts.interfaces.PortPartialEq.TheImpl as ports
 use Rattle.ospf_flood.specs.Retransmission.{OnPorts}
 use Rattle.ospf_router.specs.Interfaces.{at_ports}
-use Rattle.ospf_router.specs.Prefixes.{Network}
+use Rattle.dn_net.specs.Networks.{Network}
 
 -- two tests in a row decide both facts
 and_decides : {P Q : Type 0} (x y : Bool) → Decides x P → Decides y Q → Decides (x && y) (P × Q)

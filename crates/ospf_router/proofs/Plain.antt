@@ -18,7 +18,7 @@ use Rattle.ospf_lsdb.specs.Keys.{key_cmp, own_key}
 use Rattle.ospf_lsdb.specs.Kept.{age_of}
 use Rattle.ospf_lsdb.specs.Database.{Database, kept_at}
 use Rattle.ospf_flood.specs.Retransmission.{OnPort}
-use Rattle.ospf_flood.proofs.RetransmissionLaws.{key_cmp_total}
+use Rattle.ospf_lsdb.proofs.DatabaseLaws.{key_cmp_total}
 use Rattle.ospf_router.specs.State.{OspfState}
 use Rattle.ospf_router.specs.Sound.{IsSoundEntry, IsSoundList, IsSoundState}
 use Rattle.ospf_router.specs.BuildUpdates.{copy_of, is_sendable, of_age, sent_age}
@@ -32,9 +32,9 @@ sendable_by : (b : Bool) (k : Kept) (o : Option Kept) → is_sendable k.lsa ≡ 
 sendable_by true k o here more = here
 sendable_by false k o here more = more
 
-found_sendable : (db : Database) (key : LsaKey) → AllByRecursion IsSoundEntry db → IfSome (kept_at db key) (λ k. is_sendable k.lsa ≡ true)
-found_sendable [] key all = tt
-found_sendable (e ∷ db) key all = sendable_by (is_at (key_cmp key) e.0) e.1 (kept_at db key) all.0.sendable (found_sendable db key all.1)
+found_sendable : (now : ℕ) (db : Database) (key : LsaKey) → AllByRecursion (IsSoundEntry now) db → IfSome (kept_at db key) (λ k. is_sendable k.lsa ≡ true)
+found_sendable now [] key all = tt
+found_sendable now (e ∷ db) key all = sendable_by (is_at (key_cmp key) e.0) e.1 (kept_at db key) all.0.sendable (found_sendable now db key all.1)
 
 of_found : (now : ℕ) (o : Option Kept) → IfSome o (λ k. is_sendable k.lsa ≡ true) → IfSome (option_map (λ k. of_age (sent_age (age_of now k)) k.lsa) o) (λ l. is_sendable l ≡ true)
 of_found now None h = tt
@@ -42,7 +42,7 @@ of_found now (Some k) h = h
 
 pub sendable_copy : (s : OspfState) (now : ℕ) (key : LsaKey) → IsSoundState s → IfSome (copy_of now s.db key) (λ l. is_sendable l ≡ true)
 unfolding copy_of
-sendable_copy s now key sound = of_found now (kept_at s.db key) (found_sendable s.db key sound.database.each)
+sendable_copy s now key sound = of_found now (kept_at s.db key) (found_sendable s.tick s.db key sound.database.each)
 
 -- ---- an LSA that comes can be sent
 
@@ -60,5 +60,5 @@ few_lsas s sound = omega (arith, sound.database.few, most-le (kept_at s.db (own_
 
 pub short_lists : (s : OspfState) → IsSoundState s → AllByRecursion (λ (l : OnPort). length l ≤ 65535) s.interfaces.lists
 short_lists s sound =
-    all_more (IsSoundList s.db) (λ l. length l ≤ 65535)
+    all_more (IsSoundList s.tick s.db) (λ l. length l ≤ 65535)
     (λ l h. omega (arith, no_more key_cmp_total (keys_of l) s.db h.rising h.kept, length-keys_of l, few_lsas s sound)) s.interfaces.lists sound.listed

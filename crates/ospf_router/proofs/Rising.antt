@@ -1,6 +1,6 @@
 -- Entries in ascending order of their keys: what is put among them or taken out, and what a look-up finds then.
-use Rattle.std.proofs.Common.{◌≡◌, ℕ, Bool, true, false, cond, ◌||◌, ◌+◌, ◌≤◌, List, [], ◌∷◌, length, refl, sym, ap, ◌∙◌, arith}
-use Rattle.std.specs.Prelude.{Option, Some, is_some}
+use Rattle.std.proofs.Common.{◌≡◌, ℕ, zero, suc, Bool, true, false, cond, ◌||◌, ◌+◌, ◌≤◌, List, [], ◌∷◌, length, refl, sym, ap, ◌∙◌, arith}
+use Rattle.std.specs.Prelude.{Option, Some, is_some, slice_set}
 use Rattle.std.specs.List.{AllByRecursion, filter, list_any}
 use Rattle.std.specs.List.Sorted.{IsStrictlySortedBy}
 use Rattle.std.specs.Map.{keys_of, lookup, remove_entry}
@@ -60,6 +60,35 @@ each_chosen P false e rest old more = more
 pub each-filter : {K X : Type 0} (P : K → Type 0) (test : K × X → Bool) (es : List (K × X)) → Each P es → Each P (filter test es)
 each-filter P test [] all = tt
 each-filter P test (e ∷ es) all = each_chosen P (test e) e (filter test es) all.0 (each-filter P test es all.1)
+
+-- the same of the values
+abbrev pub EachValue : {K X : Type 0} → (X → Type 0) → List (K × X) → Type 0
+EachValue P es = AllByRecursion (λ e. P e.1) es
+
+values_put : {K X : Type 0} (P : X → Type 0) (o : Ordering) (e : K × X) (es rest : List (K × X)) (key : K) (x : X) → P x → P e.1 → EachValue P es → EachValue P rest
+    → EachValue P (match_ordering o ((key, x) ∷ e ∷ es) ((e.0, x) ∷ es) (e ∷ rest))
+values_put P Less e es rest key x new old all more = (new, (old, all))
+values_put P Equal e es rest key x new old all more = (new, all)
+values_put P Greater e es rest key x new old all more = (old, more)
+
+pub values-insert : {K X : Type 0} (R : K → K → Ordering) (P : X → Type 0) (es : List (K × X)) (key : K) (x : X) → P x → EachValue P es → EachValue P (insert_entry R es key x)
+values-insert R P [] key x new all = (new, tt)
+values-insert R P (e ∷ es) key x new all =
+    values_put P (R key e.0) e es (insert_entry R es key x) key x new all.0 all.1 (values-insert R P es key x new all.1)
+
+values_left : {K X : Type 0} (P : X → Type 0) (b : Bool) (e : K × X) (es rest : List (K × X)) → P e.1 → EachValue P es → EachValue P rest → EachValue P (cond b es (e ∷ rest))
+values_left P true e es rest old all more = all
+values_left P false e es rest old all more = (old, more)
+
+pub values-remove : {K X : Type 0} (P : X → Type 0) (test : K → Bool) (es : List (K × X)) → EachValue P es → EachValue P (remove_entry test es)
+values-remove P test [] all = tt
+values-remove P test (e ∷ es) all = values_left P (test e.0) e es (remove_entry test es) all.0 all.1 (values-remove P test es all.1)
+
+-- what is set in a list of which each is so
+pub each-set : {A : Type 0} (P : A → Type 0) (xs : List A) (i : ℕ) (x : A) → P x → AllByRecursion P xs → AllByRecursion P (slice_set xs i x)
+each-set P [] i x new all = tt
+each-set P (y ∷ ys) zero x new all = (new, all.1)
+each-set P (y ∷ ys) (suc i) x new all = (all.0, each-set P ys i x new all.1)
 
 -- ---- the order
 

@@ -27,14 +27,16 @@ use Rattle.ospf_lsdb.specs.Keys.{key_cmp, own_key}
 use Rattle.ospf_lsdb.specs.Kept.{fresh}
 use Rattle.ospf_lsdb.specs.Database.{Database, max_age_lsas, kept_at, own_lsa, next_sequence_number, with_kept, with_own, without}
 use Rattle.ospf_flood.specs.Retransmission.{OnPorts, without_lsa, without_lsa_anywhere}
-use Rattle.ospf_flood.proofs.RetransmissionLaws.{key_cmp_total}
+use Rattle.ospf_lsdb.proofs.DatabaseLaws.{key_cmp_total}
 use Rattle.ospf_router.specs.declared.router.Router.{Router}
 use Rattle.ospf_router.specs.Commands.{commanded, is_removal, is_setting}
 use Rattle.ospf_router.specs.Interfaces.{AtPorts, full_mask, has_port, is_listed, neighbour_down, opening_port}
 use Rattle.ospf_router.specs.Origination.{originate_if_needed, finish_step, has_next_sequence_number, is_outdated, links_from, may_originate, remove_max_age_lsas, remove_max_age_lsa, originate_own_lsa, stub_of, wanted_body, wanted_links}
-use Rattle.ospf_router.specs.Prefixes.{Network, Networks, has_room, is_network, network_cmp, with_network, without_network}
+use Rattle.dn_net.specs.Networks.{Network, is_network, network_cmp}
+use Rattle.ospf_router.specs.Prefixes.{Networks, has_room, with_network, without_network}
 use Rattle.ospf_router.specs.Flooding.{flood_lsa}
-use Rattle.ospf_router.specs.Sound.{HasBytes, IsSoundDatabase, IsSoundEntry, IsSoundList, IsSoundNetworks, IsSoundState, most, ospf_run}
+use Rattle.ospf_router.specs.declared.interfaces.Port.{Port}
+use Rattle.ospf_router.specs.Sound.{HasBytes, IsHeard, IsSoundDatabase, IsSoundEntry, IsSoundList, IsSoundNetworks, IsSoundState, most, ospf_run}
 use Rattle.ospf_router.specs.State.{OspfState, Prefix, id_of, opening, opening_prefixes, router_of, with_prefix}
 use Rattle.ospf_router.specs.Step.{receive_body, handled, is_from_full, is_passed_over, receive_message, next, ospf_after, receive_packet, port_down, stepped}
 use Rattle.ospf_router.specs.ReceiveUpdate.{receive_update}
@@ -43,7 +45,7 @@ use Rattle.ospf_router.specs.BuildUpdates.{is_sendable}
 use Rattle.ospf_router.proofs.Choice.{choose, folded}
 use Rattle.ospf_router.proofs.LinkLaws.{few_links}
 use Rattle.ospf_router.proofs.PrefixLaws.{room_left}
-use Rattle.ospf_router.proofs.Rising.{finds-insert, finds-new, length-insert, length-remove, one, rises-insert, rises-remove}
+use Rattle.ospf_router.proofs.Rising.{each-insert, each-remove, finds-insert, finds-new, length-insert, length-remove, one, rises-insert, rises-remove}
 use Rattle.ospf_router.proofs.Database.{empty_list, lists_left, lists_more, off_lists, sound-with, sound-without}
 use Rattle.ospf_router.proofs.Routers.{IsSoundRouter, at-neighbour_down, at_of, sound-receive_acknowledgement, sound-at, sound-flood_lsa, sound-receive_hello, sound-ticked, sound-receive_update}
 
@@ -51,6 +53,10 @@ use Rattle.ospf_router.proofs.Routers.{IsSoundRouter, at-neighbour_down, at_of, 
 
 network_total : IsTotalOrder network_cmp
 network_total = then_total (on_total (λ (n : Network). n.0) nat_cmp_total) (on_total (λ (n : Network). n.1) nat_cmp_total)
+
+and_left : (x y : Bool) → (x && y) ≡ true → x ≡ true
+and_left true y h = refl
+and_left false y h = absurd cc
 
 and_right : (x y : Bool) → (x && y) ≡ true → y ≡ true
 and_right true y h = h
@@ -61,9 +67,13 @@ unfolding one
 one_more true many more count = omega (arith, count)
 one_more false many more count = omega (arith, count)
 
-sound-put : (ns : Networks) (n : Network) (cost : ℕ) → has_room ns n ≡ true → IsSoundNetworks ns → IsSoundNetworks (insert_entry network_cmp ns n cost)
-sound-put ns n cost room sound = record {
+abbrev IsOne : Network → Type 0
+IsOne n = is_network n.0 n.1 ≡ true
+
+sound-put : (ns : Networks) (n : Network) (cost : ℕ) → IsOne n → has_room ns n ≡ true → IsSoundNetworks ns → IsSoundNetworks (insert_entry network_cmp ns n cost)
+sound-put ns n cost one-is room sound = record {
   rising = rises-insert network_total ns n cost sound.rising;
+  each = each-insert network_cmp IsOne ns n cost one-is sound.each;
   few = room_left ns n (lookup (is_at (network_cmp n)) ns) (length (insert_entry network_cmp ns n cost)) room refl sound.few
       (one_more (is_some (lookup (is_at (network_cmp n)) ns)) (length ns) (length (insert_entry network_cmp ns n cost)) (length-insert network_total ns n cost sound.rising));
 }
@@ -72,7 +82,8 @@ sound-network : (address len cost : ℕ) (ns : Networks) → IsSoundNetworks ns 
 unfolding with_network
 sound-network address len cost ns sound =
     choose IsSoundNetworks (is_network address len && nat_le 1 cost && has_room ns (address, len)) (insert_entry network_cmp ns (address, len) cost) ns
-    (λ h. sound-put ns (address, len) cost (and_right (is_network address len && nat_le 1 cost) (has_room ns (address, len)) h) sound)
+    (λ h. sound-put ns (address, len) cost (and_left (is_network address len) (nat_le 1 cost) (and_left (is_network address len && nat_le 1 cost) (has_room ns (address, len)) h))
+    (and_right (is_network address len && nat_le 1 cost) (has_room ns (address, len)) h) sound)
     (λ _. sound)
 
 sound-no_network : (address len : ℕ) (ns : Networks) → IsSoundNetworks ns → IsSoundNetworks (without_network address len ns)
@@ -80,7 +91,11 @@ unfolding without_network
 sound-no_network address len ns sound =
     let test = is_at (network_cmp (address, len)) in
     choose IsSoundNetworks (is_network address len) (remove_entry test ns) ns
-    (λ _. record { rising = rises-remove network_cmp test ns sound.rising; few = omega (arith, length-remove test ns, sound.few) })
+    (λ _. record {
+      rising = rises-remove network_cmp test ns sound.rising;
+      each = each-remove IsOne test ns sound.each;
+      few = omega (arith, length-remove test ns, sound.few);
+    })
     (λ _. sound)
 
 sound-commanded : (bytes : List ℕ) (ns : Networks) → IsSoundNetworks ns → IsSoundNetworks (commanded bytes ns)
@@ -148,8 +163,8 @@ few_wanted ports r sound =
 own_sendable : (router seq : ℕ) (bytes : List ℕ) → length bytes ≤ 1000 → is_sendable (own_lsa router seq bytes) ≡ true
 own_sendable router seq bytes few = sendable_one (own_lsa router seq bytes) refl (omega (arith, few))
 
-sound-own : (router seq now : ℕ) (bytes : List ℕ) → length bytes ≤ 1000 → IsSoundEntry (own_key router, fresh (own_lsa router seq bytes) now false false)
-sound-own router seq now bytes few = record { named = refl; sendable = own_sendable router seq bytes few; sent = tt }
+sound-own : (router seq now : ℕ) (bytes : List ℕ) → length bytes ≤ 1000 → IsSoundEntry now (own_key router, fresh (own_lsa router seq bytes) now false false)
+sound-own router seq now bytes few = record { named = refl; sendable = own_sendable router seq bytes few; installed = omega arith; sent = tt }
 
 most-none : (o : Option Kept) → is_some o ≡ false → most o ≡ 65534
 most-none None h = refl
@@ -167,7 +182,7 @@ renewed_router d r = record r {
   db = d;
 }
 
-sound-renewed_router : (k : Kept) (r : Router) → IsSoundEntry (own_key (id_of r), k) → IsSoundRouter r → IsSoundRouter (renewed_router (with_kept r.db (own_key (id_of r)) k) r)
+sound-renewed_router : (k : Kept) (r : Router) → IsSoundEntry r.tick (own_key (id_of r), k) → IsSoundRouter r → IsSoundRouter (renewed_router (with_kept r.db (own_key (id_of r)) k) r)
 unfolding renewed_router
 sound-renewed_router k r new sound =
     let own = own_key (id_of r) in
@@ -175,11 +190,13 @@ sound-renewed_router k r new sound =
     let own_there : most (kept_at d own) ≡ 65535 = most-own (kept_at d own) (finds-new key_cmp_total r.db own k) in
     record {
       tick = sound.tick;
+      originated = omega arith;
       networks = sound.networks;
       ports = sound.ports;
       lists = length-map r.interfaces.lists (without_lsa own) ∙ sound.lists;
-      database = sound-with own own k r.db new (λ none. omega (arith, own_there, most-none (kept_at r.db own) none, sound.database.few)) sound.database;
-      listed = off_lists d own r.interfaces.lists (lists_more r.db d r.interfaces.lists (λ q h. finds-insert key_cmp r.db own k q h) sound.listed);
+      heard = sound.heard;
+      database = sound-with r.tick own own k r.db new (λ none. omega (arith, own_there, most-none (kept_at r.db own) none, sound.database.few)) sound.database;
+      listed = off_lists r.tick d own r.interfaces.lists (lists_more r.tick r.db d r.interfaces.lists (λ q h. finds-insert key_cmp r.db own k q h) sound.listed);
     }
 
 sound-flooded_own : (full : ℕ) (k : Kept) (r : Router) → IsSoundRouter (renewed_router (with_kept r.db (own_key (id_of r)) k) r)
@@ -209,28 +226,30 @@ sound-originate_if_needed ports r sound =
     (λ h. sound-originate_own_lsa full wanted r (and_right (may_originate r.tick r.originated && is_outdated r.tick wanted own) (has_next_sequence_number own) h) (few_wanted ports r sound) sound)
     (λ _. sound)
 
--- a database beside these lists
-record IsLeft (own : LsaKey) (ls : OnPorts) (d : Database) : Type 0 where
-  database : IsSoundDatabase own d
-  listed : AllByRecursion (IsSoundList d) ls
+-- a database at a tick beside these lists
+record IsLeft (now : ℕ) (own : LsaKey) (ls : OnPorts) (d : Database) : Type 0 where
+  database : IsSoundDatabase now own d
+  listed : AllByRecursion (IsSoundList now d) ls
 
-left_one : (own : LsaKey) (a : AtPorts) (d : Database) (key : LsaKey) → IsLeft own a.lists d → IsLeft own a.lists (remove_max_age_lsa a d key)
+left_one : (now : ℕ) (own : LsaKey) (a : AtPorts) (d : Database) (key : LsaKey) → IsLeft now own a.lists d → IsLeft now own a.lists (remove_max_age_lsa a d key)
 unfolding is_listed
-left_one own a d key sound =
-    choose (IsLeft own a.lists) (is_listed key a) d (without d key) (λ _. sound)
-    (λ away. record { database = sound-without own key d sound.database; listed = lists_left d key a.lists away sound.listed })
+left_one now own a d key sound =
+    choose (IsLeft now own a.lists) (is_listed key a) d (without d key) (λ _. sound)
+    (λ away. record { database = sound-without now own key d sound.database; listed = lists_left now d key a.lists away sound.listed })
 
 sound-remove_max_age_lsas : (r : Router) → IsSoundRouter r → IsSoundRouter (remove_max_age_lsas r)
 unfolding remove_max_age_lsas
 sound-remove_max_age_lsas r sound =
     let own = own_key (id_of r) in
-    let left : IsLeft own r.interfaces.lists (fold (remove_max_age_lsa r.interfaces) r.db (max_age_lsas r.tick r.db)) =
-    folded (IsLeft own r.interfaces.lists) (remove_max_age_lsa r.interfaces) (left_one own r.interfaces) (max_age_lsas r.tick r.db) r.db (record { database = sound.database; listed = sound.listed }) in
+    let left : IsLeft r.tick own r.interfaces.lists (fold (remove_max_age_lsa r.interfaces) r.db (max_age_lsas r.tick r.db)) =
+    folded (IsLeft r.tick own r.interfaces.lists) (remove_max_age_lsa r.interfaces) (left_one r.tick own r.interfaces) (max_age_lsas r.tick r.db) r.db (record { database = sound.database; listed = sound.listed }) in
     record {
       tick = sound.tick;
+      originated = sound.originated;
       networks = sound.networks;
       ports = sound.ports;
       lists = sound.lists;
+      heard = sound.heard;
       database = left.database;
       listed = left.listed;
     }
@@ -245,7 +264,7 @@ sound-port_down : (port : ℕ) (r : Router) → IsSoundRouter r → IsSoundRoute
 unfolding port_down
 sound-port_down port r sound =
     choose IsSoundRouter (has_port r.interfaces port) (record r { interfaces = neighbour_down port r.interfaces }) r
-    (λ _. sound-at (neighbour_down port r.interfaces) r (at-neighbour_down r.db port r.interfaces (at_of r sound)) sound) (λ _. sound)
+    (λ _. sound-at (neighbour_down port r.interfaces) r (at-neighbour_down r.tick r.db port r.interfaces (at_of r sound)) sound) (λ _. sound)
 
 networks_router : Networks → Router → Router
 networks_router ns r = record r { prefixes = ns }
@@ -254,19 +273,21 @@ sound-networks : (ns : Networks) (r : Router) → IsSoundNetworks ns → IsSound
 unfolding networks_router
 sound-networks ns r new sound = record {
   tick = sound.tick;
+  originated = sound.originated;
   networks = new;
   ports = sound.ports;
   lists = sound.lists;
+  heard = sound.heard;
   database = sound.database;
   listed = sound.listed;
 }
 
-not_past : (tick group : ℕ) → (nat_lt group tick || nat_lt 65535 group) ≡ false → group ≤ 65535
-not_past tick group h = grind (arith, nat_tests)
+not_past : (tick group : ℕ) → (nat_lt group tick || nat_lt 65535 group) ≡ false → (tick ≤ group) × (group ≤ 65535)
+not_past tick group h = (grind (arith, nat_tests), grind (arith, nat_tests))
 
 pub sound-handled : (ports : ℕ) (i : Input) (r : Router) → HasBytes i → is_passed_over r.tick i ≡ false → IsSoundRouter r → IsSoundRouter (handled ports i r)
 unfolding handled networks_router
-sound-handled ports (input.Tick group) r bytes here sound = sound-ticked ports group r (not_past r.tick group here) sound
+sound-handled ports (input.Tick group) r bytes here sound = (let taken = not_past r.tick group here in sound-ticked ports group r taken.0 taken.1 sound)
 sound-handled ports (input.Cmd body) r bytes here sound = sound-networks (commanded body r.prefixes) r (sound-commanded body r.prefixes sound.networks) sound
 sound-handled ports (input.Down port) r bytes here sound = sound-port_down port r sound
 sound-handled ports (input.Up port) r bytes here sound = sound
@@ -286,19 +307,25 @@ sound-step s ports i bytes sound = sound-next ports i (router_of s) bytes sound
 
 sound-prefixes : (prefixes : List Prefix) → IsSoundNetworks (opening_prefixes prefixes)
 unfolding IsStrictlySortedBy
-sound-prefixes prefixes = folded IsSoundNetworks with_prefix (λ ns p h. sound-network p.0 p.1 p.2 ns h) prefixes [] (record { rising = tt; few = omega arith })
+sound-prefixes prefixes = folded IsSoundNetworks with_prefix (λ ns p h. sound-network p.0 p.1 p.2 ns h) prefixes [] (record { rising = tt; each = tt; few = omega arith })
 
-empty_lists : (n : ℕ) → AllByRecursion (IsSoundList []) (replicate n [])
+empty_lists : (n : ℕ) → AllByRecursion (IsSoundList 0 []) (replicate n [])
 empty_lists zero = tt
-empty_lists (suc n) = (empty_list [], empty_lists n)
+empty_lists (suc n) = (empty_list 0 [], empty_lists n)
+
+none_heard : (costs : List ℕ) → AllByRecursion (λ (p : Port). IsHeard 0 p.neighbour) (map opening_port costs)
+none_heard [] = tt
+none_heard (cost ∷ costs) = (tt, none_heard costs)
 
 pub sound-opening : (number : ℕ) (costs : List ℕ) (prefixes : List Prefix) → length costs ≤ 16 → IsSoundState (opening number costs prefixes)
 unfolding IsStrictlySortedBy
 sound-opening number costs prefixes few = record {
   tick = omega arith;
+  originated = tt;
   networks = sound-prefixes prefixes;
   ports = omega (arith, length-map costs opening_port, few);
   lists = length-replicate (length costs) [] ∙ sym (length-map costs opening_port);
+  heard = none_heard costs;
   database = record { rising = tt; each = tt; few = omega arith };
   listed = empty_lists (length costs);
 }

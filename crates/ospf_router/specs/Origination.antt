@@ -6,7 +6,6 @@ use Rattle.dn_guest.specs.Ports.{is_up}
 use Rattle.ospf_wire.specs.declared.router_lsa.RouterLink.{RouterLink}
 use Rattle.ospf_wire.specs.RouterLsas.{router_body_bytes}
 use Rattle.ospf_wire.specs.Constants.{LSRefreshTime, MinLSInterval, PointToPoint, StubNetwork}
-use Rattle.ospf_wire.specs.Masks.{network_mask}
 use Rattle.ospf_lsdb.specs.declared.key.LsaKey.{LsaKey}
 use Rattle.ospf_lsdb.specs.declared.kept.Kept.{Kept}
 use Rattle.ospf_lsdb.specs.Keys.{own_key}
@@ -18,7 +17,7 @@ use Rattle.ospf_router.specs.declared.neighbour.Neighbour.TheVariants.{Down, Ini
 use Rattle.ospf_router.specs.declared.interfaces.Port.{Port}
 use Rattle.ospf_router.specs.declared.router.Router.{Router}
 use Rattle.ospf_router.specs.Interfaces.{AtPorts, full_mask, is_listed}
-use Rattle.ospf_router.specs.Prefixes.{Network}
+use Rattle.dn_net.specs.Networks.{Network, mask_of}
 use Rattle.ospf_router.specs.State.{id_of}
 use Rattle.ospf_router.specs.Flooding.{flood_lsa}
 
@@ -38,7 +37,7 @@ links_from p ports (x ∷ xs) =
 
 -- the stub link of a network: type 3, the address, the mask, the cost
 abbrev pub stub_of : Network × ℕ → RouterLink
-stub_of e = record { id = e.0.0; «data» = network_mask e.0.1; kind = StubNetwork; metric = e.1 }
+stub_of e = record { id = e.0.0; «data» = mask_of e.0.1; kind = StubNetwork; metric = e.1 }
 
 -- the links to the Full neighbours of the up ports, then the networks
 unfoldable pub wanted_links : ℕ → Router → List RouterLink

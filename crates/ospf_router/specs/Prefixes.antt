@@ -1,26 +1,12 @@
 -- The router's own networks: a finite map from address and length to the cost, as the list of its entries in
 -- ascending order.
-use Rattle.std.specs.Prelude.{ℕ, ◌-◌, ◌%◌, ◌^◌, ◌==◌, ◌≤◌, Bool, ◌&&◌, ◌||◌, nat_le, nat_lt, if◌then◌else◌, List, length, is_some}
-use Rattle.std.specs.List.{AllByRecursion}
+use Rattle.std.specs.Prelude.{ℕ, Bool, ◌&&◌, ◌||◌, nat_le, nat_lt, if◌then◌else◌, List, length, is_some}
 use Rattle.std.specs.Map.{lookup, remove_entry}
 use Rattle.std.specs.BTreeMap.{insert_entry, is_at}
-use Rattle.std.specs.declared.cmp.Ordering.{Ordering}
-use Rattle.std.specs.Ordering.{nat_cmp, ordering_then}
-
--- address and length
-abbrev pub Network : Type 0
-Network = ℕ × ℕ
+use Rattle.dn_net.specs.Networks.{Network, is_network, network_cmp}
 
 abbrev pub Networks : Type 0
 Networks = List (Network × ℕ)
-
--- by address, then by length
-abbrev pub network_cmp : Network → Network → Ordering
-network_cmp a b = ordering_then (nat_cmp a.0 b.0) (nat_cmp a.1 b.1)
-
--- the address has no bits past the length, which is at most 32
-abbrev pub is_network : ℕ → ℕ → Bool
-is_network address len = nat_le len 32 && address % 2 ^ (32 - len) == 0
 
 -- it is there, or one more may come: a router has 32 at most
 abbrev pub has_room : Networks → Network → Bool
@@ -35,7 +21,3 @@ with_network address len cost ns =
 unfoldable pub without_network : ℕ → ℕ → Networks → Networks
 without_network address len ns =
     if is_network address len then remove_entry (is_at (network_cmp (address, len))) ns else ns
-
--- each has a length of at most 32
-abbrev pub AreNetworks : Networks → Type 0
-AreNetworks ns = AllByRecursion (λ e. e.0.1 ≤ 32) ns

@@ -4,17 +4,17 @@ ghost use Rattle.std.specs.Prelude.{◌≡◌, ◌+◌, ◌<◌, ◌≤◌, ◌+
 ghost use Rattle.ospf_lsdb.specs.Database.{max_age_lsas};
 ghost use Rattle.ospf_lsdb.specs.Keys.{own_key};
 ghost use Rattle.ospf_router.specs.Interfaces.{full_mask};
-ghost use Rattle.ospf_router.specs.Prefixes.{AreNetworks};
 ghost use Rattle.ospf_router.specs.Origination.{originate_if_needed, finish_step, has_next_sequence_number, is_outdated, link_to, links_from, may_originate, remove_max_age_lsas, remove_max_age_lsa, originate_own_lsa, stub_of, wanted_body, wanted_links};
 
 use crate::interfaces::{Interfaces, Port};
 use crate::neighbour::Neighbour;
 use crate::router::Router;
 use dn_guest::{Bytes, is_up};
+use dn_net::mask_of;
 use ospf_lsdb::{Kept, LsaKey, Lsdb, own_key};
 use ospf_wire::{
     LS_REFRESH_TIME, MAX_SEQUENCE_NUMBER, MIN_LS_INTERVAL, POINT_TO_POINT, RouterLink,
-    STUB_NETWORK, network_mask, router_body,
+    STUB_NETWORK, router_body,
 };
 use std::alloc::{AllocError, Global};
 
@@ -56,13 +56,12 @@ fn push_links(
 /// Appends the stub links of the networks (RFC 2328 section 12.4.1; this profile: they are the router's
 /// and no interface's).
 fn push_stubs(links: &mut Vec<RouterLink>, networks: &[((u32, u8), u16)]) -> Result<(), AllocError>
-    requires { AreNetworks networks.now }
     ensures { OnOk result (links.new.items ≡ links.old.items ++ map stub_of networks.now) }
 {
     for ((address, len), cost) in networks {
         links.push(RouterLink {
             id: *address,
-            data: network_mask(*len),
+            data: mask_of(*len),
             kind: STUB_NETWORK,
             metric: *cost,
         })?;

@@ -1,8 +1,10 @@
 //! The router's own networks, which are the stub links of its router-LSA (RFC 2328 section 12.4.1).
 
 ghost use Rattle.std.specs.Prelude.{◌≡◌, ◌↔◌, ◌≤◌, [], IsTrue, IfOk, OnOk, length};
-ghost use Rattle.ospf_router.specs.Prefixes.{AreNetworks, has_room, is_network, network_cmp, with_network, without_network};
+ghost use Rattle.dn_net.specs.Networks.{is_network, network_cmp};
+ghost use Rattle.ospf_router.specs.Prefixes.{has_room, with_network, without_network};
 
+use dn_net::is_network;
 use std::alloc::{AllocError, Global};
 use std::collections::BTreeMap;
 use std::marker::Model;
@@ -19,20 +21,12 @@ pub struct Prefixes {
 
 impl Model for Prefixes {
     ghost use Rattle.std.specs.Prelude.{List, ℕ, ◌≤◌, length};
-    ghost use Rattle.ospf_router.specs.Prefixes.{AreNetworks};
 
     ghost Value = { List ((ℕ × ℕ) × ℕ) };
 
     ghost view = { λ p. p.costs.entries };
 
-    ghost invariant = { λ p. (length p.costs.entries ≤ 32) × AreNetworks p.costs.entries };
-}
-
-/// Whether the address has no bits past the length, which is at most 32.
-fn is_network(address: u32, len: u8) -> bool
-    ensures { result ≡ is_network address len }
-{
-    len <= 32 && u64::from(address) % (1 << (32 - len)) == 0
+    ghost invariant = { λ p. length p.costs.entries ≤ 32 };
 }
 
 impl Prefixes {
@@ -78,7 +72,6 @@ impl Prefixes {
     pub fn entries(&self, alloc: Global) -> Result<Vec<((u32, u8), u16)>, AllocError>
         ensures entries { IfOk result (λ entries. entries.items ≡ self.now) }
         ensures few { length self.now ≤ 32 }
-        ensures networks { AreNetworks self.now }
     {
         all_entries(alloc, &self.costs)
     }

@@ -1,19 +1,57 @@
 -- The offers of one more link or vertex.
-use Rattle.std.proofs.Common.{◌≡◌, ℕ, zero, suc, ◌+◌, ◌-◌, ◌^◌, ◌<◌, ◌≤◌, Bool, eqb, Option, Some, None, List, [], ◌∷◌, ◌++◌, refl, sym, ap, ◌∙◌, subst, inl, inr, arith, length, get_or}
-use Rattle.std.specs.List.{Contains}
+use Rattle.std.proofs.Common.{◌≡◌, ◌≢◌, ℕ, zero, suc, ◌+◌, ◌-◌, ◌^◌, ◌<◌, ◌≤◌, ◌==◌, Bool, true, false, cond, eqb, Option, Some, None, List, [], ◌∷◌, ◌++◌, refl, sym, ap, ◌∙◌, subst, inl, inr, arith, length, get_or}
+use Rattle.std.specs.Prelude.{MatchOption, find}
+use Rattle.std.specs.List.{Contains, range_with_len}
 use Rattle.std.proofs.Math.Pow.{pow-lt, pow_mono}
-use Rattle.std.proofs.lemmas.Bool.{cases_order, cases_lt}
+use Rattle.std.proofs.lemmas.Bool.{cases_order, cases_lt, both_ways, eq-eqb, eqb-true}
 use Rattle.std.proofs.lemmas.List.Elements.{Contains-append_left, Contains-push, Contains-push_cases}
 use Rattle.ospf_wire.specs.declared.router_lsa.RouterLink.{RouterLink}
 use Rattle.ospf_spf.specs.declared.graph.Vertex.{Vertex}
 use Rattle.ospf_spf.specs.declared.route.Route.{Route}
-use Rattle.ospf_wire.specs.Masks.{network_mask}
+use Rattle.dn_net.specs.Networks.{mask_len, mask_of}
 use Rattle.ospf_spf.specs.Offers.{IsOffer, AreOffers, links_at, AreOffered}
+
+-- ---- the length of a mask
+
+abbrev IsFound : ℕ → ℕ → ℕ → Option ℕ → Type 0
+IsFound m from n found = MatchOption found ((k : ℕ) → from ≤ k → k < from + n → m ≢ mask_of k) (λ k. (k < from + n) × (m ≡ mask_of k))
+
+none_more : (m from n k : ℕ) → (mask_of from == m) ≡ false → ((j : ℕ) → from + 1 ≤ j → j < from + 1 + n → m ≢ mask_of j) → from ≤ k → k < from + suc n → m ≢ mask_of k
+none_more m from n k t none low high same = elim (cases_order k from) [
+  | inl here ↦ both_ways (mask_of from == m) t (eq-eqb (mask_of from) m (ap mask_of (sym here) ∙ sym same))
+  | inr x ↦ elim x [
+    | inl below ↦ omega (arith, low, below)
+    | inr above ↦ none k (omega (arith, above)) (omega (arith, high)) same
+  ]
+]
+
+found_later : (m from n : ℕ) (found : Option ℕ) → (mask_of from == m) ≡ false → IsFound m (from + 1) n found → IsFound m from (suc n) found
+found_later m from n None t none = λ k low high. none_more m from n k t none low high
+found_later m from n (Some k) t here = (omega (arith, here.0), here.1)
+
+found_by : (b : Bool) (m from n : ℕ) (found : Option ℕ) → (mask_of from == m) ≡ b → IsFound m (from + 1) n found → IsFound m from (suc n) (cond b (Some from) found)
+found_by true m from n found t later = (omega arith, sym (eqb-true (mask_of from) m t))
+found_by false m from n found t later = found_later m from n found t later
+
+found_from : (m n from : ℕ) → IsFound m from n (find (λ k. mask_of k == m) (range_with_len from n))
+found_from m zero from = λ k low high. absurd (omega (arith, low, high))
+found_from m (suc n) from = found_by (mask_of from == m) m from n (find (λ k. mask_of k == m) (range_with_len (from + 1) n)) refl (found_from m n (from + 1))
+
+as_length : (m : ℕ) (found : Option ℕ) → IsFound m 0 33 found → MatchOption found ((n : ℕ) → n ≤ 32 → m ≢ mask_of n) (λ n. (n ≤ 32) × (m ≡ mask_of n))
+as_length m None none = λ n le. none n (omega arith) (omega (arith, le))
+as_length m (Some k) here = (omega (arith, here.0), here.1)
+
+-- the length that is found is the one whose mask this is
+pub length_found : (m : ℕ) (found : Option ℕ) → found ≡ mask_len m → MatchOption found ((n : ℕ) → n ≤ 32 → m ≢ mask_of n) (λ n. (n ≤ 32) × (m ≡ mask_of n))
+unfolding mask_len
+length_found m found e = as_length m found (subst (IsFound m 0 33) (sym e) (found_from m 33 0))
+
+-- ---- offers
 
 none_in : {X : Type 0} (x : X) → Contains [] x → ⊥
 none_in x i = let k : i.0 < 0 = i.1 in omega arith
 
-mask_apart : (a b : ℕ) → a < b → b ≤ 32 → network_mask a ≡ network_mask b → ⊥
+mask_apart : (a b : ℕ) → a < b → b ≤ 32 → mask_of a ≡ mask_of b → ⊥
 mask_apart a b l h e =
     let k : 32 - b < 32 - a = omega arith in
     let p : 2 ^ (32 - b) < 2 ^ (32 - a) = pow-lt k in
@@ -21,7 +59,7 @@ mask_apart a b l h e =
     let q : 2 ^ (32 - a) ≤ 2 ^ 32 = pow_mono m in
     omega arith
 
-pub one_len : (a b : ℕ) → a ≤ 32 → b ≤ 32 → network_mask a ≡ network_mask b → a ≡ b
+pub one_len : (a b : ℕ) → a ≤ 32 → b ≤ 32 → mask_of a ≡ mask_of b → a ≡ b
 one_len a b ha hb e = elim (cases_order a b) [
   | inl q ↦ q
   | inr x ↦ elim x [

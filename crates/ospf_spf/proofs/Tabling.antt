@@ -12,7 +12,7 @@ use Rattle.ospf_spf.specs.declared.graph.Vertex.{Vertex}
 use Rattle.ospf_spf.specs.declared.route.Route.{Route}
 use Rattle.ospf_spf.specs.Graph.{HasLink}
 use Rattle.ospf_spf.specs.Walks.{Edge, IsEdge, IsWalk, LeadsTo, walk_cost}
-use Rattle.ospf_wire.specs.Masks.{network_mask}
+use Rattle.dn_net.specs.Networks.{mask_of}
 use Rattle.ospf_spf.specs.Stubs.{IsStub}
 use Rattle.ospf_spf.specs.Routes.{Gives, IsRoute, AreRoutes, IsBefore, AreAscending}
 use Rattle.ospf_spf.specs.Table.{IsWide, any_link, any_walk, begins_at, edge, is_given, is_start, is_stub, leads, least_from, ports_from, route_at, route_to, routes_of_prefix, routes_from, table_of}
@@ -57,16 +57,16 @@ leads_there l v to =
 
 stub_found : (l : RouterLink) (p n : ℕ) → is_stub l p n ≡ true → IsStub l p n
 stub_found l p n h =
-    let one = and_parts (l.kind == 3) (nat_le n 32 && (l.data == network_mask n && bit_and l.id l.data == p)) h in
-    let two = and_parts (nat_le n 32) (l.data == network_mask n && bit_and l.id l.data == p) one.1 in
-    let three = and_parts (l.data == network_mask n) (bit_and l.id l.data == p) two.1 in
-    record { kind = eqb-true l.kind 3 one.0; within = leb-true n 32 two.0; mask = eqb-true l.data (network_mask n) three.0; address = eqb-true (bit_and l.id l.data) p three.1 }
+    let one = and_parts (l.kind == 3) (nat_le n 32 && (l.data == mask_of n && bit_and l.id l.data == p)) h in
+    let two = and_parts (nat_le n 32) (l.data == mask_of n && bit_and l.id l.data == p) one.1 in
+    let three = and_parts (l.data == mask_of n) (bit_and l.id l.data == p) two.1 in
+    record { kind = eqb-true l.kind 3 one.0; within = leb-true n 32 two.0; mask = eqb-true l.data (mask_of n) three.0; address = eqb-true (bit_and l.id l.data) p three.1 }
 
 stub_there : (l : RouterLink) (p n : ℕ) → IsStub l p n → is_stub l p n ≡ true
 stub_there l p n s =
-    and_from (l.kind == 3) (nat_le n 32 && (l.data == network_mask n && bit_and l.id l.data == p)) (eq-eqb l.kind 3 s.kind)
-    (and_from (nat_le n 32) (l.data == network_mask n && bit_and l.id l.data == p) (le-leb n 32 s.within)
-    (and_from (l.data == network_mask n) (bit_and l.id l.data == p) (eq-eqb l.data (network_mask n) s.mask) (eq-eqb (bit_and l.id l.data) p s.address)))
+    and_from (l.kind == 3) (nat_le n 32 && (l.data == mask_of n && bit_and l.id l.data == p)) (eq-eqb l.kind 3 s.kind)
+    (and_from (nat_le n 32) (l.data == mask_of n && bit_and l.id l.data == p) (le-leb n 32 s.within)
+    (and_from (l.data == mask_of n) (bit_and l.id l.data == p) (eq-eqb l.data (mask_of n) s.mask) (eq-eqb (bit_and l.id l.data) p s.address)))
 
 -- ---- walks
 

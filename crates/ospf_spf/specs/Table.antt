@@ -8,7 +8,7 @@ use Rattle.ospf_spf.specs.declared.graph.Vertex.{Vertex}
 use Rattle.ospf_spf.specs.declared.route.Route.{Route}
 use Rattle.ospf_spf.specs.Walks.{Edge, walk_cost}
 use Rattle.ospf_wire.specs.Constants.{PointToPoint, StubNetwork}
-use Rattle.ospf_wire.specs.Masks.{network_mask}
+use Rattle.dn_net.specs.Networks.{mask_of}
 
 -- whether the router u has a link that passes
 abbrev pub any_link : List Vertex → ℕ → (RouterLink → Bool) → Bool
@@ -32,7 +32,7 @@ any_walk g (suc n) a test =
 -- a stub link to this network
 abbrev pub is_stub : RouterLink → ℕ → ℕ → Bool
 is_stub l prefix len =
-    l.kind == StubNetwork && (nat_le len 32 && (l.data == network_mask len && bit_and l.id l.data == prefix))
+    l.kind == StubNetwork && (nat_le len 32 && (l.data == mask_of len && bit_and l.id l.data == prefix))
 
 -- whether some walk that passes gives the network this cost. A walk has no more edges than its cost.
 abbrev pub is_given : List Vertex → ℕ → ℕ → ℕ → (List Edge → Bool) → ℕ → Bool

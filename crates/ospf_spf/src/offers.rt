@@ -3,25 +3,21 @@
 
 ghost use Rattle.std.specs.Prelude.{◌≡◌, ℕ, ◌+◌, ◌-◌, ◌*◌, ◌^◌, ◌<◌, ◌≤◌, ◌≢◌, length, bit_and, IfOk, OnOk, MatchOption};
 ghost use Rattle.ospf_spf.specs.declared.route.Route.{Route};
-ghost use Rattle.ospf_wire.specs.Masks.{network_mask};
+ghost use Rattle.dn_net.specs.Networks.{mask_of};
 ghost use Rattle.ospf_spf.specs.Search.{label};
 ghost use Rattle.ospf_spf.specs.Offers.{IsOffer, AreOffers, AreOffered};
 
 use crate::graph::Vertex;
 use crate::route::Route;
-use ospf_wire::{RouterLink, STUB_NETWORK, network_mask};
+use dn_net::mask_len;
+use ospf_wire::{RouterLink, STUB_NETWORK};
 use std::alloc::{AllocError, Global};
 
 /// The length of a contiguous mask.
-fn mask_len(mask: u32) -> Option<u8>
-    ensures { MatchOption result ((n : ℕ) → n ≤ 32 → mask ≢ network_mask n) (λ n. (n ≤ 32) × (mask ≡ network_mask n)) }
+fn length_of(mask: u32) -> Option<u8>
+    ensures { MatchOption result ((n : ℕ) → n ≤ 32 → mask ≢ mask_of n) (λ n. (n ≤ 32) × (mask ≡ mask_of n)) }
 {
-    for len in 0..33 {
-        if mask == network_mask(len) {
-            return Some(len);
-        }
-    }
-    None
+    mask_len(mask)
 }
 
 /// The offer of a link, if it is a stub link (RFC 2328 section 16.1, second stage, steps (1) and (2)).
@@ -33,7 +29,7 @@ fn offer_of(link: &RouterLink, cost: u32, own: bool, via: u16) -> Option<Route>
         return None;
     }
     // This profile: a mask with a gap gives nothing.
-    let len = mask_len(link.data)?;
+    let len = length_of(link.data)?;
     Some(Route {
         prefix: link.id & link.data,
         len,

@@ -1,6 +1,5 @@
 pub mod Constants
 pub mod Fields
-pub mod Masks
 pub mod Pieces
 pub mod Lsas
 pub mod RouterLsas

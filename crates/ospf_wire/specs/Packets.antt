@@ -85,3 +85,9 @@ abbrev pub FitsBody : Body → Type 0
 FitsBody (body.Hello h) = FitsHello h × All FitsWord h.neighbours
 FitsBody (body.Update ls) = All (λ l. FitsHeader l.head) ls
 FitsBody (body.Ack hs) = All FitsHeader hs
+
+-- each number of a packet is one of its width
+pub record FitsPacket (p : Packet) : Type 0 where
+  pub router : p.router < 2 ^ 32
+  pub area : p.area < 2 ^ 32
+  pub body : FitsBody p.body

@@ -9,7 +9,7 @@ ghost use Rattle.ospf_wire.specs.Fields.{number};
 ghost use Rattle.ospf_wire.specs.Sums.{words, packet_sum, packet_checksum};
 ghost use Rattle.ospf_wire.specs.Fletcher.{AreCheckBytes, IsChecked, ls_checksum, with_sum};
 ghost use Rattle.ospf_wire.specs.Newer.{newer_of};
-ghost use Rattle.ospf_wire.specs.Packets.{IsPacket};
+ghost use Rattle.ospf_wire.specs.Packets.{IsPacket, IsEncodable, FitsPacket, packet_bytes};
 ghost use Rattle.ospf_wire.specs.declared.router_lsa.RouterLink.{RouterLink};
 ghost use Rattle.ospf_wire.specs.RouterLsas.{IsRouterBody, FitsLink, router_body_bytes};
 ghost use Rattle.ospf_wire.specs.Reading.{packet_at, router_links_at};
@@ -24,14 +24,23 @@ pub fn one_packet()
     ensures { (bytes : List ℕ) (p q : Packet) → IsPacket bytes p → IsPacket bytes q → p ≡ q }
 {}
 
+/// The bytes that are written for a packet are that packet, and it is read from them: each packet that has
+/// bytes, and whose numbers fit theirs, decodes from its encoding.
+pub fn written_packets_are_read()
+    ensures packet { (p : Packet) → FitsPacket p → IsEncodable p → IsPacket (packet_bytes p) p }
+    ensures read { (p : Packet) → FitsPacket p → IsEncodable p → packet_at (packet_bytes p) ≡ Some p }
+{}
+
 /// The links that are read from a body are those with which it is the body of a router-LSA.
 pub fn router_links_are_read()
     ensures { (body : List ℕ) (ls : List RouterLink) → (router_links_at body ≡ Some ls) ↔ IsRouterBody body ls }
 {}
 
-/// The links for which a body is written are read from it.
+/// The bytes that are written for links are the body of a router-LSA with these, and they are read from it.
 pub fn written_router_links_are_read()
-    ensures { (ls : List RouterLink) → length ls ≤ 65535 → All FitsLink ls
+    ensures body { (ls : List RouterLink) → length ls ≤ 65535 → All FitsLink ls
+        → IsRouterBody (router_body_bytes ls) ls }
+    ensures read { (ls : List RouterLink) → length ls ≤ 65535 → All FitsLink ls
         → router_links_at (router_body_bytes ls) ≡ Some ls }
 {}
 

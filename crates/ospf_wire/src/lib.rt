@@ -15,12 +15,12 @@
 //! | `fletcher.rt` | the LS checksum of an LSA |
 //! | `instances.rt` | which instance of an LSA is the newer |
 //! | `fields.rt` | numbers in bytes, the highest byte first |
-//! | `masks.rt` | network masks |
 //! | `laws.rt` | laws of the definitions |
 //!
 //! The one contract upwards: `decode` gives the packet exactly where the bytes are one of the grammar
-//! of `specs/Packets.antt`, and what `encode` writes is such bytes of its packet. So it is of the body of
-//! a router-LSA, `router_links`, `router_body` and `specs/RouterLsas.antt`.
+//! of `specs/Packets.antt`, what `encode` writes is such bytes of its packet, and each packet that can be
+//! written is read from them (`written_packets_are_read`). So it is of the body of a router-LSA,
+//! `router_links`, `router_body` and `specs/RouterLsas.antt`.
 #![tactic(auto)]
 
 mod acknowledgement;
@@ -32,7 +32,6 @@ mod instances;
 mod laws;
 mod link_state_update;
 mod lsa;
-mod masks;
 mod packet;
 mod packet_lists;
 mod packet_sum;
@@ -48,11 +47,10 @@ pub use hello::Hello;
 pub use instances::newer;
 pub use laws::{
     ls_checksum_is_right, ls_checksum_is_the_only_one, newer_turns_round, one_packet,
-    packets_are_read, router_links_are_read, written_checksum_is_right,
+    packets_are_read, router_links_are_read, written_checksum_is_right, written_packets_are_read,
     written_router_links_are_read,
 };
 pub use lsa::{Lsa, LsaHeader};
-pub use masks::network_mask;
 pub use packet::{Body, Packet, decode, encode};
 pub use packet_lists::{Ids, LsaHeaders, Lsas, RouterLinks};
 pub use packet_sum::ip_sum;

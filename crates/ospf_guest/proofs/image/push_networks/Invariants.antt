@@ -1,7 +1,7 @@
 use Rattle.std.proofs.Common.{◌≡◌, ◌++◌, take}
 use Rattle.std.specs.List.{flat_map}
 use Rattle.dn_guest.specs.KeepsFront.{KeepsFront}
-use Rattle.ospf_guest.specs.Image.{network_image}
+use Rattle.ospf_guest.specs.PlainImage.{network_image}
 use Rattle.ospf_guest.proofs.image.push_networks.Given as goal
 
 abbrev pub invariant-loop-address : goal.invariant-loop-address

@@ -1,7 +1,7 @@
 use Rattle.std.proofs.Common.{◌≡◌, ◌++◌, take}
 use Rattle.std.specs.List.{flat_map}
 use Rattle.dn_guest.specs.KeepsFront.{KeepsFront}
-use Rattle.ospf_guest.specs.Image.{listed_image}
+use Rattle.ospf_guest.specs.PlainImage.{listed_image}
 use Rattle.ospf_guest.proofs.ports_image.push_listed.Given as goal
 
 abbrev pub invariant-loop-key : goal.invariant-loop-key
