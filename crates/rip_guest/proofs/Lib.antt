@@ -1,1 +1,4 @@
 pub mod PortLaws
+pub mod Choice
+pub mod Marks
+pub mod Plain

@@ -8,3 +8,5 @@ pub mod Image
 pub mod ImageTells
 pub mod Show
 pub mod Rip
+pub mod Sound
+pub mod PlainImage

@@ -10,6 +10,7 @@
 //! | `commands.rt` | commands, which set and withdraw own networks |
 //! | `image.rt` | the bytes that tell the state |
 //! | `show.rt` | the lines that tell the routes |
+//! | `laws.rt` | what holds of every state that a router reaches |
 //!
 //! The one contract upwards: `Rip` is a `Guest` of sort 2 whose meaning is the definition of
 //! `specs/Step.antt`, on plain data.
@@ -17,6 +18,7 @@
 
 mod commands;
 mod image;
+mod laws;
 mod requests;
 mod responses;
 mod rip;
@@ -25,6 +27,7 @@ mod show;
 mod updates;
 
 pub use dn_net::{Costs, PrefixList};
+pub use laws::{no_mark_is_left, sound_states, sound_states_are_told_plainly};
 pub use rip::Rip;
 pub use settings::RipSettings;
 pub use std::alloc::AllocError as NoMemory;

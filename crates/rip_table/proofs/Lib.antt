@@ -1,3 +1,4 @@
 pub mod RouteLaws
 pub mod OwnLaws
 pub mod Equalities
+pub mod Sound

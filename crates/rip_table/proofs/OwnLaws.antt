@@ -108,7 +108,7 @@ and_false : (b : Bool) → (b && false) ≡ false
 and_false true = refl
 and_false false = refl
 
-lost_is_not : (now : ℕ) (h : Held) → is_current (lost now h) ≡ false
+pub lost_is_not : (now : ℕ) (h : Held) → is_current (lost now h) ≡ false
 lost_is_not now h = and_false (is_own h)
 
 lost_by : (b : Bool) (now : ℕ) (h : Held) → (b ≡ true → is_own h ≡ false) → is_current (cond b (lost now h) h) ≡ is_current h

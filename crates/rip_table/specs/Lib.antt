@@ -5,3 +5,4 @@ pub mod Response
 pub mod Own
 pub mod Timers
 pub mod Updates
+pub mod Sound

@@ -27,7 +27,7 @@ mod validation;
 
 pub use dn_net::{is_network, mask_len, mask_of};
 pub use held::Held;
-pub use laws::a_change_is_at_one_network;
+pub use laws::{a_change_is_at_one_network, one_own_network_more, sound_tables};
 pub use rip_wire::{INFINITY, MOST_ROUTES};
 pub use std::alloc::AllocError as NoMemory;
 pub use table::Table;

@@ -31,7 +31,7 @@ entries_take (suc count) bytes len =
     let rest = entries_take count (drop 20 bytes) (omega (arith, length-drop 20 bytes)) in
     ((entry_stands bytes (omega arith), rest.0), ap suc rest.1)
 
-same_entry : (bytes : List ℕ) (e : Entry) → StandsAtFront bytes e → entry_at bytes ≡ e
+pub same_entry : (bytes : List ℕ) (e : Entry) → StandsAtFront bytes e → entry_at bytes ≡ e
 unfolding entry_at
 same_entry bytes e stands =
     rw (← stands.family, ← stands.tag, ← stands.address, ← stands.mask, ← stands.hop, ← stands.metric) refl

@@ -1,3 +1,4 @@
 pub mod Kept
 pub mod EntryLaws
 pub mod MessageLaws
+pub mod ReadBack

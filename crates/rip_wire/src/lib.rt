@@ -25,6 +25,9 @@ pub use constants::{
 };
 pub use entries::Entries;
 pub use entry::Entry;
-pub use laws::{messages_are_read, one_message};
+pub use laws::{
+    messages_are_read, one_message, read_messages_are_written, read_messages_fit,
+    written_messages_are_read,
+};
 pub use message::{Message, decode, encode};
 pub use std::alloc::AllocError as NoMemory;
