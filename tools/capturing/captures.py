@@ -4,12 +4,13 @@ import struct
 from collections.abc import Iterator
 from dataclasses import dataclass
 
-from library.tool import BadInput
+from library.tool import BadInput, warn
 
 PCAP_MAGICS = {0xA1B2C3D4: 10**6, 0xA1B23C4D: 10**9}
 SECTION, INTERFACE, SIMPLE, ENHANCED = 0x0A0D0D0A, 1, 3, 6
 BYTE_ORDER = 0x1A2B3C4D
 RESOLUTION = 9
+FILE_HEAD, PACKET_HEAD, LEAST_BLOCK = 24, 16, 12
 
 
 @dataclass(frozen=True)
@@ -23,28 +24,38 @@ class Frame:
     length: int
 
 
-def read_frames(data: bytes) -> list[Frame]:
-    """The frames of a capture file; raises `BadInput`."""
+def read_frames(data: bytes) -> Iterator[Frame]:
+    """The frames of a capture file; raises `BadInput`. If the file ends within one, it is left out, and this is told."""
     try:
         if data[:4] == struct.pack("<I", SECTION):
-            return list(pcapng_frames(data))
+            yield from pcapng_frames(data)
+            return
         for order in "<>":
-            if len(data) >= 4 and struct.unpack(order + "I", data[:4])[0] in PCAP_MAGICS:
-                return list(pcap_frames(data, order))
+            if len(data) >= FILE_HEAD and struct.unpack_from(order + "I", data)[0] in PCAP_MAGICS:
+                yield from pcap_frames(data, order)
+                return
     except struct.error as error:
-        raise BadInput("the capture ends in the middle of a packet, or isn't one") from error
+        raise BadInput("a block of the capture is shorter than its fields") from error
     raise BadInput("this is neither pcap nor pcapng")
+
+
+def is_whole(data: bytes, place: int, size: int) -> bool:
+    """Whether so many bytes are there; if they aren't, this is told."""
+    if place + size > len(data):
+        warn("the capture ends within a packet, which is left out")
+        return False
+    return True
 
 
 def pcap_frames(data: bytes, order: str) -> Iterator[Frame]:
     """The frames of a pcap file."""
     magic, _, _, _, _, _, link = struct.unpack_from(order + "IHHiIII", data)
-    place, number = 24, 0
-    while place < len(data):
+    place, number = FILE_HEAD, 0
+    while place < len(data) and is_whole(data, place, PACKET_HEAD):
         seconds, part, size, length = struct.unpack_from(order + "IIII", data, place)
-        number, place = number + 1, place + 16
-        if place + size > len(data):
-            raise BadInput(f"packet {number}: the capture ends within it")
+        number, place = number + 1, place + PACKET_HEAD
+        if not is_whole(data, place, size):
+            return
         yield Frame(number, seconds + part / PCAP_MAGICS[magic], link & 0xFFFF, data[place:place + size], length)
         place += size
 
@@ -53,15 +64,17 @@ def pcapng_frames(data: bytes) -> Iterator[Frame]:
     """The frames of a pcapng file."""
     order, place, number = "<", 0, 0
     interfaces: list[tuple[int, float]] = []
-    while place < len(data):
+    while place < len(data) and is_whole(data, place, LEAST_BLOCK):
         kind = struct.unpack_from(order + "I", data, place)[0]
         if kind == SECTION:
             order = "<" if struct.unpack_from("<I", data, place + 8)[0] == BYTE_ORDER else ">"
             interfaces = []
         size = struct.unpack_from(order + "I", data, place + 4)[0]
+        if size < LEAST_BLOCK:
+            raise BadInput(f"the block at byte {place} has the length {size}, and the least is {LEAST_BLOCK}")
+        if not is_whole(data, place, size):
+            return
         body = data[place + 8:place + size - 4]
-        if size < 12 or place + size > len(data):
-            raise BadInput(f"the block at byte {place} is cut short")
         if kind == INTERFACE:
             interfaces.append(read_interface(order, body))
         elif kind in (ENHANCED, SIMPLE):

@@ -7,7 +7,7 @@ from model.octets import number as number_in
 
 from .captures import Frame
 
-NULL, ETHERNET, RAW, COOKED, IPV4, COOKED_2 = 0, 1, 101, 113, 228, 276
+NULL, ETHERNET, RAW, LOOP, COOKED, IPV4, COOKED_2 = 0, 1, 101, 108, 113, 228, 276
 RAW_TYPES = (RAW, IPV4, 12, 14)
 ETHERNET_IPV4, VLAN_TAGS = 0x0800, (0x8100, 0x88A8)
 OSPF_PROTOCOL, UDP_PROTOCOL, RIP_PORT = 89, 17, 520
@@ -61,7 +61,7 @@ def ipv4_of(frame: Frame) -> bytes | None:
     data = frame.data
     if frame.link in RAW_TYPES:
         return data
-    if frame.link == NULL:
+    if frame.link in (NULL, LOOP):
         return data[4:]
     if frame.link == ETHERNET:
         place = 12

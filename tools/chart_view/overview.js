@@ -51,7 +51,7 @@ export class Overview {
     bins.forEach((bin, place) => {
       let x = 2;
       bin.kinds.forEach((count, kind) => {
-        const long = (count / most) * (width - 10);
+        const long = Math.max(1, (count / most) * (width - 10));
         context.fillStyle = kindColour(this.view.data.kinds[kind].name, this.view.isDark);
         context.fillRect(x, place * 2, long, 2);
         x += long;

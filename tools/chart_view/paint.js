@@ -301,11 +301,11 @@ function paintGutterBands(context, pane, frame, theme, sight) {
 }
 
 function paintTime(context, pane, frame, theme, y, moment) {
-  const above = frame.layout.scale === BY_TIME ? y : y - frame.state.zoom / 2;
+  const isByTime = frame.layout.scale === BY_TIME, above = isByTime ? y : y - frame.state.zoom / 2;
   context.strokeStyle = theme.line;
   context.lineWidth = 1;
   context.beginPath();
-  context.moveTo(pane.x + 48, Math.round(above) + 0.5);
+  context.moveTo(pane.x + (isByTime ? pane.gutter - 7 : 48), Math.round(above) + 0.5);
   context.lineTo(pane.x + pane.gutter - 4, Math.round(above) + 0.5);
   context.stroke();
   context.fillStyle = theme.text;

@@ -1,8 +1,8 @@
 """Configurations of FRR routers: `frr.conf`, or `zebra.conf`, `ospfd.conf` and `ripd.conf`, a folder for each router.
 
-Two interfaces of two routers in one subnet are a link. A subnet that one router alone has is a network of that router,
-and so is a loopback's address. Whether a subnet is told at all is said by `network` lines, `ip ospf area` and
-`redistribute connected`.
+Two interfaces in one subnet on which two routers run one protocol are a link. Another subnet is a network of each
+router that tells of it, and so is a loopback's address. `network` lines and `ip ospf area` say where a protocol runs,
+and these and `redistribute connected` what it tells of. A router that runs neither OSPF nor RIP, as a host, isn't taken.
 """
 
 import ipaddress
@@ -11,21 +11,25 @@ import re
 from dataclasses import dataclass, field, replace
 from itertools import combinations
 
-from library.tool import BadInput
+from library.tool import BadInput, reason
 
 from .network import Network, Settings
 
 FRR_COST = 10
 LOOPBACKS = ("lo", "lo0")
+HOST_LENGTH = 32
+# Old configurations name their daemon in place of the router.
+DAEMONS = ("zebra", "ospfd", "ripd", "bgpd", "staticd", "frr", "Router")
+OTHER = "other"
 Interface4 = ipaddress.IPv4Interface
 Network4 = ipaddress.IPv4Network
 
 # Lines that say nothing of the network.
-SILENT = re.compile(r"(!|#|Building configuration|Current configuration|frr |hostname |"
-                    r"log |service |line |exit|end$|password |enable password |debug |agentx|"
-                    r"ip forwarding|ipv6 forwarding|no ipv6 forwarding|version 2$|ospf router-id |router-id |"
-                    r"description |no shutdown|bandwidth |link-detect|ip ospf network point-to-point$|"
-                    r"ip ospf hello-interval 10$|ip ospf dead-interval 40$|auto-cost reference-bandwidth )")
+SILENT = re.compile(r"(!|#|Building configuration|Current configuration|frr |hostname |username |"
+                    r"log |log-adjacency-changes|service |line |exec-timeout |exit|end$|password |enable password |"
+                    r"debug |agentx|ip forwarding|ipv6 forwarding|no ipv6 forwarding|version 2$|ospf router-id |"
+                    r"router-id |description |no shutdown|link-detect|ip ospf network point-to-point$|"
+                    r"ip ospf hello-interval 10$|ip ospf dead-interval 40$)")
 
 
 @dataclass
@@ -41,46 +45,110 @@ class Interface:
 
 
 @dataclass
+class Protocol:
+    """A part `router ospf` or `router rip`.
+
+    `others` are the interfaces that are passive, or the ones that aren't if the others are (`is_passive`).
+    """
+
+    networks: list[Network4 | str] = field(default_factory=list)
+    redistributes: bool = False
+    is_passive: bool = False
+    others: set[str] = field(default_factory=set)
+
+    def take_passive(self, name: str, is_passive: bool) -> None:
+        """Takes `passive-interface NAME`, or `no passive-interface NAME`; NAME may be `default`."""
+        if name == "default":
+            self.is_passive, self.others = is_passive, set()
+        elif is_passive == self.is_passive:
+            self.others.discard(name)
+        else:
+            self.others.add(name)
+
+
+@dataclass
 class Router:
-    """A router's configuration, as far as it is taken; `ospf` and `rip` are None without the protocol."""
+    """A router's configuration, as far as it is taken."""
 
     name: str
     interfaces: dict[str, Interface] = field(default_factory=dict)
-    ospf: list[Network4] | None = None
-    rip: list[Network4 | str] | None = None
-    redistributes: bool = False
+    protocols: dict[str, Protocol] = field(default_factory=dict)
     notes: list[str] = field(default_factory=list)
 
     def interface(self, name: str) -> Interface:
         """The interface of this name, made if it is new."""
         return self.interfaces.setdefault(name, Interface(name))
 
-    def kind(self, settings: Settings) -> str:
-        """The kind of router."""
-        if self.ospf is not None or any(one.area is not None for one in self.interfaces.values()):
+    @property
+    def kind(self) -> str | None:
+        """The protocol that is taken: OSPF if the router runs it, or RIP; None if it runs neither."""
+        if "ospf" in self.protocols or any(one.area is not None for one in self.interfaces.values()):
             return "ospf"
-        return "rip" if self.rip is not None else settings.kind
+        return "rip" if "rip" in self.protocols else None
 
-    def tells(self, interface: Interface, address: Interface4, kind: str) -> bool:
-        """Whether the protocol runs on an address, or tells it otherwise."""
-        if self.redistributes or (kind == "ospf" and interface.area is not None):
+    @property
+    def protocol(self) -> Protocol:
+        """The part of the protocol that is taken."""
+        return self.protocols.get(self.kind, Protocol())
+
+    def borrows(self, interface: Interface, address: Interface4) -> bool:
+        """Whether an interface is unnumbered: it has the address of another one, and no subnet."""
+        others = [one for one in self.interfaces.values() if one is not interface and address in one.addresses]
+        return bool(others) and interface.name not in LOOPBACKS and address.network.prefixlen == HOST_LENGTH
+
+
+@dataclass
+class End:
+    """An address of an interface of a router; `place` is the router's among all, and `name` that in the case."""
+
+    place: int
+    name: str
+    router: Router
+    interface: Interface
+    address: Interface4
+
+    def runs(self) -> bool:
+        """Whether the router's protocol runs there."""
+        if self.router.kind == "ospf" and self.interface.area is not None:
             return True
-        named = self.ospf if kind == "ospf" else self.rip
-        return any(one == interface.name if isinstance(one, str) else address.ip in one for one in named or [])
+        return any(one == self.interface.name if isinstance(one, str) else self.address.ip in one
+                   for one in self.router.protocol.networks)
+
+    def speaks(self) -> bool:
+        """Whether the router sends there."""
+        protocol = self.router.protocol
+        is_passive = (self.interface.name in protocol.others) != protocol.is_passive or self.interface.is_passive
+        return self.runs() and not is_passive
+
+    def cost(self) -> int:
+        """The cost: the interface's own or FRR's 10 for OSPF, and 1 for RIP."""
+        return 1 if self.router.kind == "rip" else self.interface.cost or FRR_COST
 
 
 def read(paths: list[str], settings: Settings) -> Network:
     """The network of configuration files, of folders with one folder a router, or of both."""
-    routers = [read_router(name, files) for name, files in router_files(paths)]
-    if not routers:
+    found = [read_router(name, files) for name, files in router_files(paths)]
+    if not found:
         raise BadInput("no configuration: name frr.conf files, or a folder that has one folder for each router")
     network = Network(replace(settings, networks=False))
-    for place, router in enumerate(routers):
-        name = network.add_router(str(place), router.name, router.kind(settings)).name
-        for text in router.notes:
-            network.note(f"{name}: {text}")
-    take_subnets(network, routers)
+    routers = [router for router in found if router.kind is not None]
+    for router in found:
+        if router.kind is None:
+            network.note(f"{router.name}: it runs neither OSPF nor RIP; not taken")
+    names = [take_router(network, place, router) for place, router in enumerate(routers)]
+    take_subnets(network, [end for place, router in enumerate(routers)
+                           for end in ends_of(network, place, names[place], router)])
     return network
+
+
+def take_router(network: Network, place: int, router: Router) -> str:
+    """Takes a router and what was noted of it; gives its name in the case."""
+    name = network.add_router(str(place), router.name, router.kind).name
+    for text in router.notes:
+        network.note(f"{name}: {text}")
+    if router.kind == "ospf" and "rip" in router.protocols:
+        network.note(f"{name}: RIP beside OSPF: a router has one protocol, and OSPF is taken")
+    return name
 
 
 def router_files(paths: list[str]) -> list[tuple[str, list[str]]]:
@@ -115,34 +183,36 @@ def read_router(name: str, files: list[str]) -> Router:
             with open(path, encoding="utf-8", errors="replace") as file:
                 lines = file.read().splitlines()
         except OSError as error:
-            raise BadInput(f"can't read {path}: {error.strerror}") from error
+            raise BadInput(f"can't read {path}: {reason(error)}") from error
         section: Interface | str = ""
         for number, line in enumerate(lines, 1):
             try:
-                section = take_line(router, section, line.strip())
+                section = take_line(router, section, line.strip(), line[:1].isspace())
             except (ValueError, IndexError):
                 router.notes.append(f'{os.path.basename(path)} line {number}: "{line.strip()}" can\'t be read')
     return router
 
 
-def take_line(router: Router, section: Interface | str, line: str) -> Interface | str:
-    """Takes a line; gives the section that the next one is in."""
+def take_line(router: Router, section: Interface | str, line: str, is_inner: bool) -> Interface | str:
+    """Takes a line, which is within a part if it is moved in; gives the section that the next one is in."""
     fields = line.split()
     if not fields:
         return section
-    if fields[0] == "hostname":
-        router.name = fields[1]
+    if section == OTHER and is_inner:
+        if not SILENT.match(line):
+            router.notes.append(f'"{line}" not taken')
+    elif fields[0] == "hostname":
+        router.name = router.name if fields[1] in DAEMONS else fields[1]
     elif fields[0] == "interface":
+        note_rest(router, line, fields[2:])
         return router.interface(fields[1])
-    elif fields[:2] == ["router", "ospf"]:
-        router.ospf = router.ospf or []
-        return "ospf"
-    elif fields[:2] == ["router", "rip"]:
-        router.rip = router.rip or []
-        return "rip"
-    elif fields[0] in ("router", "route-map", "ip") and section in ("", "other") or fields[0] == "router":
+    elif fields[:2] in (["router", "ospf"], ["router", "rip"]):
+        note_rest(router, line, fields[2:])
+        router.protocols.setdefault(fields[1], Protocol())
+        return fields[1]
+    elif fields[0] in ("router", "route-map"):
         router.notes.append(f'"{line}" not taken')
-        return "other"
+        return OTHER
     elif isinstance(section, Interface):
         take_interface_line(router, section, fields, line)
     elif section in ("ospf", "rip"):
@@ -150,6 +220,12 @@ def take_line(router: Router, section: Interface | str, line: str) -> Interface 
     elif not SILENT.match(line):
         router.notes.append(f'"{line}" not taken')
     return "" if fields[0] in ("exit", "!") and len(fields) == 1 else section
+
+
+def note_rest(router: Router, line: str, rest: list[str]) -> None:
+    """Notes the fields of a line that aren't taken, as `vrf RED`."""
+    if rest:
+        router.notes.append(f'"{line}": {" ".join(rest)} not taken')
 
 
 def take_interface_line(router: Router, interface: Interface, fields: list[str], line: str) -> None:
@@ -179,73 +255,82 @@ def note_area(router: Router, where: str, area: str) -> None:
 
 def take_protocol_line(router: Router, section: str, fields: list[str], line: str) -> None:
     """A line within `router ospf` or `router rip`."""
-    where = f"router {section}"
+    where, protocol = f"router {section}", router.protocols[section]
     if fields[0] == "network" and section == "ospf":
-        router.ospf.append(Network4(fields[1], strict=False))
+        protocol.networks.append(Network4(fields[1], strict=False))
         note_area(router, f"{where}: network {fields[1]}", fields[3])
     elif fields[0] == "network":
-        router.rip.append(Network4(fields[1], strict=False) if "/" in fields[1] else fields[1])
+        protocol.networks.append(Network4(fields[1], strict=False) if "/" in fields[1] else fields[1])
     elif fields[:2] == ["redistribute", "connected"]:
-        router.redistributes = True
-    elif fields[0] == "passive-interface" and len(fields) == 2:
-        router.interface(fields[1]).is_passive = True
+        protocol.redistributes = True
+        note_rest(router, line, fields[2:])
+    elif fields[-2:-1] == ["passive-interface"] and fields[:-2] in ([], ["no"]):
+        protocol.take_passive(fields[-1], len(fields) == 2)
     elif not SILENT.match(line):
         router.notes.append(f'{where}: "{line}" not taken')
 
 
-def take_subnets(network: Network, routers: list[Router]) -> None:
-    """The subnets: links between two routers, and networks of one; a loopback is no link."""
-    subnets: dict[Network4, list[tuple[int, Interface, Interface4]]] = {}
-    for place, router in enumerate(routers):
-        for interface in router.interfaces.values():
-            for address in [] if interface.is_down else interface.addresses:
-                if interface.name in LOOPBACKS:
-                    take_network(network, routers, address.network, (place, interface, address))
-                else:
-                    subnets.setdefault(address.network, []).append((place, interface, address))
-    for subnet, ends in subnets.items():
-        if len({place for place, _, _ in ends}) == 1:
-            take_network(network, routers, subnet, ends[0])
+def ends_of(network: Network, place: int, name: str, router: Router) -> list[End]:
+    """The addresses of a router that are up and have a subnet; the interfaces without one are noted."""
+    found = []
+    for interface in router.interfaces.values():
+        where = f"{name}: interface {interface.name}"
+        if not interface.is_down and not interface.addresses and interface.name not in LOOPBACKS:
+            network.note(f"{where}: it has no address, so what is at its other end isn't known; not taken")
+        for address in [] if interface.is_down else interface.addresses:
+            if router.borrows(interface, address):
+                network.note(f"{where}: it is unnumbered ({address}), so what is at its other end isn't known; "
+                             "not taken")
+            else:
+                found.append(End(place, name, router, interface, address))
+    return found
+
+
+def take_subnets(network: Network, ends: list[End]) -> None:
+    """The subnets: links, and networks; a loopback is no link."""
+    subnets: dict[Network4, list[End]] = {}
+    for end in ends:
+        if end.interface.name in LOOPBACKS:
+            take_network(network, end)
         else:
-            take_links(network, routers, subnet, ends)
+            subnets.setdefault(end.address.network, []).append(end)
+    for subnet, there in subnets.items():
+        for kind in ("ospf", "rip"):
+            take_subnet(network, subnet, [end for end in there if end.router.kind == kind])
 
 
-def take_network(network: Network, routers: list[Router], subnet: Network4, end: tuple) -> None:
-    """A network that one router alone has; an OSPF router tells a loopback as a host (RFC 2328, 12.4.1.1)."""
-    place, interface, address = end
-    node, router = network.nodes[str(place)], routers[place]
-    if not router.tells(interface, address, node.kind):
-        network.note(f"{node.name}: interface {interface.name}: {subnet} isn't told by {node.kind}; not taken")
-        return
-    cost = interface.cost or (1 if node.kind == "rip" else FRR_COST)
-    if interface.name in LOOPBACKS and node.kind == "ospf":
-        subnet, cost = Network4(address.ip), 1
-        network.note(f"{node.name}: loopback {subnet}: FRR tells it at cost 0, and a case has costs from 1")
-    network.add_prefix(str(place), int(subnet.network_address), subnet.prefixlen, cost)
-
-
-def take_links(network: Network, routers: list[Router], subnet: Network4, ends: list[tuple]) -> None:
-    """The link of a subnet; of more than two routers a link for each two of them."""
-    names = " ".join(network.nodes[str(place)].name for place, _, _ in ends)
-    if len(ends) > 2:
+def take_subnet(network: Network, subnet: Network4, ends: list[End]) -> None:
+    """A subnet at routers of one protocol: links between those that speak there, and a network of the others."""
+    speaking = [end for end in ends if end.speaks()]
+    if len({end.place for end in speaking}) < 2:
+        speaking = []
+    for end in ends:
+        if end not in speaking:
+            take_network(network, end)
+    names = " ".join(end.name for end in speaking)
+    if len(speaking) > 2:
         network.note(f"subnet {subnet} of {names}: links are point-to-point; each two of them get one")
-    network.note(f"subnet {subnet} of {names}: links are unnumbered; the subnet itself isn't told")
-    for one, two in combinations(ends, 2):
-        sides = [(place, interface, address) for place, interface, address in (one, two)]
-        quiet = [network.nodes[str(place)].name for place, interface, address in sides if interface.is_passive
-                 or not routers[place].tells(interface, address, network.nodes[str(place)].kind)]
-        if quiet:
-            network.note(f"link {names}: no protocol on it at {' and '.join(quiet)}; not taken")
-            continue
-        costs = [cost_of(network, *side[:2]) for side in sides]
-        if costs[0] != costs[1]:
-            network.note(f"link {names}: cost {costs[0]} and {costs[1]} the other way; a link has one cost, "
-                         "the first is taken")
-        network.add_link(str(one[0]), str(two[0]), network.settings.delay, costs[0])
+    if speaking:
+        network.note(f"subnet {subnet} of {names}: links are unnumbered; the subnet itself isn't told")
+    for one, two in combinations(speaking, 2):
+        take_link(network, one, two)
 
 
-def cost_of(network: Network, place: int, interface: Interface) -> int:
-    """The cost of an interface: its own, FRR's 10 for OSPF, 1 for RIP."""
-    if network.nodes[str(place)].kind == "rip":
-        return 1
-    return interface.cost or FRR_COST
+def take_network(network: Network, end: End) -> None:
+    """A network of a router, if it tells of it; an OSPF router tells a loopback as a host (RFC 2328, 12.4.1.1)."""
+    subnet, cost = end.address.network, end.cost()
+    if not end.runs() and not end.router.protocol.redistributes:
+        network.note(f"{end.name}: interface {end.interface.name}: {subnet} isn't told by {end.router.kind}; not taken")
+        return
+    if end.interface.name in LOOPBACKS and end.router.kind == "ospf":
+        subnet, cost = Network4(end.address.ip), 1
+        network.note(f"{end.name}: loopback {subnet}: FRR tells it at cost 0, and a case has costs from 1")
+    network.add_prefix(str(end.place), int(subnet.network_address), subnet.prefixlen, cost)
+
+
+def take_link(network: Network, one: End, two: End) -> None:
+    """The link of two addresses of one subnet."""
+    if one.cost() != two.cost():
+        network.note(f"link {one.name} {two.name}: cost {one.cost()} and {two.cost()} the other way; a link has one "
+                     "cost, the first is taken")
+    network.add_link(str(one.place), str(two.place), network.settings.delay, one.cost())

@@ -112,7 +112,7 @@ def cost_of(network: Network, what: str, data: dict[str, Any]) -> int:
     if "LinkSpeedRaw" in data:
         speed = number_of(network, what, "LinkSpeedRaw", data["LinkSpeedRaw"])
         if speed is not None:
-            return max(1, min(65_535, round(network.settings.reference / speed)))
+            return max(1, round(network.settings.reference / speed))
     return network.settings.cost
 
 

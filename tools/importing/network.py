@@ -13,6 +13,8 @@ from model.nets import has_host_bits
 
 from .words import externals_of
 
+FIRST_NETWORK = 0x0A000000
+
 
 @dataclass(frozen=True)
 class Settings:
@@ -129,11 +131,14 @@ class Network:
         return sum((edge.a == key) + (edge.b == key) for edge in self.edges)
 
     def give_networks(self) -> None:
-        """A network 10.0.N.0/24 for each router that routes and has none."""
-        given = []
+        """A network 10.0.N.0/24 that nobody has for each router that routes and has none."""
+        given, taken = [], {held[:2] for node in self.nodes.values() for held in node.prefixes}
         for number, node in enumerate(self.nodes.values()):
             if node.kind != "flood" and not node.prefixes:
-                node.prefixes.append((0x0A000000 + (number << 8), 24, 1))
+                free = ((FIRST_NETWORK + (place << 8), 24) for place in (number, *range(256)))
+                net = next(one for one in free if one not in taken)
+                taken.add(net)
+                node.prefixes.append((*net, 1))
                 given.append(node.name)
         if given:
             self.note(f"{len(given)} routers without a network of their own got 10.0.N.0/24 (--no-networks leaves this "

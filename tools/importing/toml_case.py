@@ -1,4 +1,4 @@
-"""A case in TOML:
+"""A case in TOML. Its feed may be in words:
 
     period = 1000
     groups = 200
@@ -12,25 +12,38 @@
     [[router]]
     name = "b"
     kind = "ospf"
-    prefixes = ["10.0.6.0/24 1"]
 
     [[link]]
-    ends = ["a", "b"]
+    a = "a"
+    b = "b"
     delay = 20
     cost = 10
+
+    [[prefix]]
+    router = "b"
+    net = "10.0.6.0/24"
+    cost = 1
+
+or in tables, with one of cmd, down and up:
+
+    [[feed]]
+    group = 60
+    router = "a"
+    down = 0
 """
 
 import tomllib
 from dataclasses import replace
 from typing import Any
 
+from library.commands import read_net
 from library.tool import BadInput
 
-from .graphs import take_prefix
 from .network import Network, Settings
 
-KEYS = {"": {"period", "groups", "seed", "feed", "router", "link"},
-        "router": {"name", "kind", "prefixes"}, "link": {"ends", "delay", "cost"}}
+KEYS = {"": {"period", "groups", "seed", "feed", "router", "link", "prefix"}, "router": {"name", "kind"},
+        "link": {"a", "b", "delay", "cost"}, "prefix": {"router", "net", "cost"},
+        "feed": {"group", "router", "cmd", "down", "up"}}
 
 
 def read(text: bytes, settings: Settings) -> Network:
@@ -39,32 +52,38 @@ def read(text: bytes, settings: Settings) -> Network:
         data = tomllib.loads(text.decode())
     except (tomllib.TOMLDecodeError, UnicodeDecodeError) as error:
         raise BadInput(f"this is no TOML: {error}") from error
-    check_keys("", "the file", data)
     numbers = {key: whole(data[key], key) for key in ("period", "groups", "seed") if key in data}
     network = Network(replace(settings, networks=False, **numbers))
-    for router in tables(data, "router"):
-        take_router(network, router)
-    for link in tables(data, "link"):
-        take_link(network, link)
-    network.feed = [text_of(line, "a line of feed") for line in data.get("feed", [])]
+    note_others(network, "", "the file", data)
+    for name, take in (("router", take_router), ("link", take_link), ("prefix", take_prefix)):
+        for place, table in enumerate(listed(data, name), 1):
+            take(network, checked(network, name, place, table))
+    for place, line in enumerate(listed(data, "feed"), 1):
+        network.feed.append(line if isinstance(line, str) else feed_line(checked(network, "feed", place, line)))
     return network
 
 
-def check_keys(table: str, what: str, data: dict[str, Any]) -> None:
-    """Refuses a key that nothing is known of."""
+def note_others(network: Network, table: str, what: str, data: dict[str, Any]) -> None:
+    """Notes the keys that nothing is known of."""
     for key in data:
         if key not in KEYS[table]:
-            raise BadInput(f'{what} has the key "{key}"; known are {", ".join(sorted(KEYS[table]))}')
+            network.note(f'{what}: {key} not taken; known are {", ".join(sorted(KEYS[table]))}')
 
 
-def tables(data: dict[str, Any], name: str) -> list[dict[str, Any]]:
+def listed(data: dict[str, Any], name: str) -> list[Any]:
     """The tables of a name, `[[name]]`."""
     found = data.get(name, [])
-    if not isinstance(found, list) or not all(isinstance(one, dict) for one in found):
+    if not isinstance(found, list):
         raise BadInput(f"{name} is written as [[{name}]]")
-    for place, one in enumerate(found, 1):
-        check_keys(name, f"{name} {place}", one)
     return found
+
+
+def checked(network: Network, name: str, place: int, table: Any) -> dict[str, Any]:
+    """The place-th table of a name."""
+    if not isinstance(table, dict):
+        raise BadInput(f"{name} is written as [[{name}]]")
+    note_others(network, name, f"{name} {place}", table)
+    return table
 
 
 def whole(value: Any, what: str) -> int:
@@ -77,31 +96,49 @@ def whole(value: Any, what: str) -> int:
 def text_of(value: Any, what: str) -> str:
     """A text."""
     if not isinstance(value, str):
-        raise BadInput(f"{what} is {value!r}, not a text")
+        raise BadInput(f"{what} is missing" if value is None else f"{what} is {value!r}, not a text")
+    return value
+
+
+def known(network: Network, value: Any, what: str) -> str:
+    """The name of a router."""
+    if text_of(value, what) not in network.nodes:
+        raise BadInput(f"{what}: no router {value}")
     return value
 
 
 def take_router(network: Network, router: dict[str, Any]) -> None:
-    """A router and its prefixes."""
+    """A router."""
     name = text_of(router.get("name"), "a router's name")
     kind = text_of(router.get("kind", network.settings.kind), f"the kind of {name}")
     if kind not in ("flood", "ospf", "rip"):
         raise BadInput(f'router {name}: kind "{kind}" isn\'t flood, ospf or rip')
     if name in network.nodes:
-        raise BadInput(f"router {name} stands twice")
+        raise BadInput(f"router {name} is there twice")
     network.add_router(name, name, kind)
-    for prefix in router.get("prefixes", []):
-        take_prefix(network, name, text_of(prefix, f"a prefix of {name}"))
 
 
 def take_link(network: Network, link: dict[str, Any]) -> None:
     """A link."""
-    ends = link.get("ends", [])
-    if not isinstance(ends, list) or len(ends) != 2:
-        raise BadInput(f'a link has ends = ["a", "b"], not {ends!r}')
-    for end in ends:
-        if end not in network.nodes:
-            raise BadInput(f"link {ends[0]} {ends[1]}: no router {end}")
+    ends = [known(network, link.get(end), f"{end} of a link") for end in ("a", "b")]
     what = f"of link {ends[0]} {ends[1]}"
     delay = whole(link.get("delay", network.settings.delay), f"delay {what}")
     network.add_link(*ends, delay, whole(link.get("cost", network.settings.cost), f"cost {what}"))
+
+
+def take_prefix(network: Network, prefix: dict[str, Any]) -> None:
+    """A network of a router."""
+    router = known(network, prefix.get("router"), "router of a prefix")
+    address, length = read_net(text_of(prefix.get("net"), f"net of a prefix of {router}"))
+    network.add_prefix(router, address, length, whole(prefix.get("cost", 1), f"cost of a prefix of {router}"))
+
+
+def feed_line(line: dict[str, Any]) -> str:
+    """The line of an external that is a table."""
+    router = text_of(line.get("router"), "router of a feed")
+    group = whole(line.get("group"), f"group of a feed at {router}")
+    kind = next((kind for kind in ("cmd", "down", "up") if kind in line), None)
+    if kind is None:
+        raise BadInput(f"a feed at {router} has none of cmd, down and up")
+    last = text_of(line[kind], "cmd of a feed") if kind == "cmd" else whole(line[kind], f"{kind} of a feed")
+    return f"@{group} {router} {kind} {last}"

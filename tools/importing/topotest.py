@@ -26,7 +26,8 @@ def read(text: bytes, settings: Settings) -> Network:
         raise BadInput('this is no topology of a topotest: it has no "routers" that are objects')
     network = Network(replace(settings, networks=False))
     for name, router in routers.items():
-        note_router(network, network.add_router(name, name, kind_of(router, settings)).name, router)
+        note_router(network, network.add_router(name, name, kind_of(router)).name, router)
+    note_kinds(network, routers)
     for name, router in routers.items():
         for far, link in router.get("links", {}).items():
             take_link(network, routers, name, far, link if isinstance(link, dict) else {})
@@ -39,12 +40,22 @@ def read(text: bytes, settings: Settings) -> Network:
     return network
 
 
-def kind_of(router: dict[str, Any], settings: Settings) -> str:
-    """The protocol that a router's part names, or that of the settings."""
+def kind_of(router: dict[str, Any]) -> str | None:
+    """The protocol that a router's part names, or None."""
     links = router.get("links", {}).values()
     if "ospf" in router or any(isinstance(link, dict) and "ospf" in link for link in links):
         return "ospf"
-    return "rip" if "rip" in router else settings.kind
+    return "rip" if "rip" in router else None
+
+
+def note_kinds(network: Network, routers: dict[str, Any]) -> None:
+    """Notes the routers that name no protocol if others do, and those that name two."""
+    bare = [network.nodes[name].name for name, router in routers.items() if kind_of(router) is None]
+    if bare and len(bare) < len(routers):
+        network.note(f"{' '.join(bare)}: no protocol is named; {network.settings.kind} is taken")
+    for name, router in routers.items():
+        if kind_of(router) == "ospf" and "rip" in router:
+            network.note(f"{network.nodes[name].name}: RIP beside OSPF: a router has one protocol, and OSPF is taken")
 
 
 def note_router(network: Network, name: str, router: dict[str, Any]) -> None:
@@ -86,12 +97,22 @@ def take_link(network: Network, routers: dict[str, Any], name: str, far: str, li
         network.note(f"{here}: interface to {far}: {far_key} has no link back; not taken")
         return
     order = list(routers)
-    if order.index(name) < order.index(far_key):
+    if order.index(name) < order.index(far_key) and has_protocol(network, routers, (name, link), (far_key, back)):
         cost, other = interface_cost(network, here, link), interface_cost(network, far_key, back)
         if cost != other:
             network.note(f"link {here} {network.nodes[far_key].name}: cost {cost} and {other} the other way; "
                          "a link has one cost, the first is taken")
         network.add_link(name, far_key, network.settings.delay, cost)
+
+
+def has_protocol(network: Network, routers: dict[str, Any], *ends: tuple[str, dict[str, Any]]) -> bool:
+    """Whether OSPF runs at both ends of a link, as far as the routers name it; if it doesn't, this is noted."""
+    quiet = [network.nodes[name].name for name, link in ends
+             if kind_of(routers[name]) == "ospf" and not isinstance(link.get("ospf"), dict)]
+    if quiet:
+        names = " ".join(network.nodes[name].name for name, _ in ends)
+        network.note(f"link {names}: no ospf on it at {' and '.join(quiet)}; not taken")
+    return not quiet
 
 
 def note_interface(network: Network, what: str, link: dict[str, Any]) -> None:

@@ -70,10 +70,21 @@ class Played(unittest.TestCase):
         raw = [(5.25, ospf(0, 0, hello)), (15.5, ospf(0, 1, hello))]
         cases = {played(pcap(raw, order))[0] for order in "<>"}
         for link, head in ((1, ETHERNET_HEAD), (1, bytes(12) + b"\x81\x00\x00\x01\x08\x00"), (0, b"\x02\0\0\0"),
-                           (113, bytes(14) + b"\x08\x00"), (276, b"\x08\x00" + bytes(18))):
+                           (108, b"\0\0\0\x02"), (113, bytes(14) + b"\x08\x00"), (276, b"\x08\x00" + bytes(18))):
             cases.add(played(pcap([(time, head + data) for time, data in raw], link=link))[0])
         self.assertEqual(len(cases), 1)
         self.assertIn(b"@10 peer1 cmd ", cases.pop())
+
+    def test_cut_short(self):
+        """Of a capture that ends within a packet, as of a tcpdump that was killed, the packets before it are played."""
+        pair = tool("pcap", text=example("ospf_pair")).stdout
+        hello = wire.encode_hello(7, [])
+        for capture in (pcap([(5.25, ospf(0, 0, hello)), (15.5, ospf(0, 1, hello))]), pair):
+            whole, _, _ = played(capture)
+            for size in (1, 10, 60):
+                case, told, _ = played(capture[:-size])
+                self.assertIn("the capture ends within a packet, which is left out", told)
+                self.assertEqual(case.count(b" cmd "), whole.count(b" cmd ") - 1)
 
     def test_bodies_that_come_again(self):
         """A Hello that comes again reaches ours again, and is the same packet to it."""
@@ -137,7 +148,7 @@ class BadInputs(unittest.TestCase):
         """Each with a part of what is told."""
         good = pcap([(0.0, ospf(0, 0, wire.encode_hello(7, [])))])
         both = pcap([(0.0, ospf(0, 0, wire.encode_hello(7, []))), (0.0, internet.datagram("rip", 0, 0, bytes(24)))])
-        cases = (((), b"", "neither pcap nor pcapng"), ((), good[:-5], "ends within it"),
+        cases = (((), b"", "neither pcap nor pcapng"), ((), good[:-5], "no OSPF or RIP"),
                  ((), pcap([]), "no OSPF or RIP"), ((), both, "--kind says"),
                  ((), pcap([(0.0, b"x")], link=9), "link type 9"),
                  (("--as", "x"), good, "A.B.C.D"), (("--delay", "0"), good, "--delay 0"),

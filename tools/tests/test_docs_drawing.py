@@ -2,18 +2,11 @@
 
 import os
 import re
-import tempfile
 import unittest
 
-import test_docs
-from helping import TOP, built_program, defined, example, needs_defined, tool
+from helping import TOP, defined, example, needs_defined, tool
+from test_docs import compare, page
 from test_import import GRAPHS
-
-
-def page() -> str:
-    """The page's text."""
-    with open(os.path.join(TOP, "docs", "TOOLS.md"), encoding="utf-8") as file:
-        return file.read()
 
 
 class Page(unittest.TestCase):
@@ -21,7 +14,7 @@ class Page(unittest.TestCase):
 
     def test_pictures(self):
         """Each picture that the page names is there, and each one that is there is named."""
-        named = set(re.findall(r"\(pictures/([a-z0-9_.]+)\)", page()))
+        named = set(re.findall(r"\(pictures/([a-z0-9_.]+)\)", page("TOOLS.md")))
         self.assertEqual(named, set(os.listdir(os.path.join(TOP, "docs", "pictures"))))
 
     def test_a_piece(self):
@@ -33,25 +26,13 @@ class Page(unittest.TestCase):
 
     def test_toml(self):
         """The case in TOML is one."""
-        text = re.search(r"```\n(period = .*?)```", page(), re.S).group(1)
+        text = re.search(r"```\n(period = .*?)```", page("TOOLS.md"), re.S).group(1)
         self.assertEqual(tool("import", text=text).returncode, 0)
 
 
 @needs_defined
 class Shown(unittest.TestCase):
     """The blocks of the page."""
-
-    def compare(self, section: str) -> None:
-        """Plays the blocks of a section in a folder that looks as the repository does."""
-        with tempfile.TemporaryDirectory() as folder:
-            os.symlink(built_program(), os.path.join(folder, "defined"))
-            for name in ("tools", "examples"):
-                os.symlink(os.path.join(TOP, name), os.path.join(folder, name))
-            os.environ["PROGRAM"] = built_program()
-            blocks = test_docs.blocks_of(section)
-            self.assertTrue(blocks)
-            for block in blocks:
-                self.assertEqual(test_docs.played(block, folder), block)
 
     def test_rollbacks(self):
         """The piece with rollbacks is what chart writes of that schedule."""
@@ -62,16 +43,16 @@ class Shown(unittest.TestCase):
 
     def test_sweep(self):
         """sweep."""
-        self.compare("sweep")
+        compare(self, "TOOLS.md", "`sweep`")
 
     @GRAPHS
     def test_import(self):
         """import."""
-        self.compare("import")
+        compare(self, "TOOLS.md", "`import`")
 
     def test_capture(self):
         """capture."""
-        self.compare("capture")
+        compare(self, "TOOLS.md", "`capture`")
 
 
 if __name__ == "__main__":

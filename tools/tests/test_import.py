@@ -2,6 +2,7 @@
 
 import json
 import os
+import tempfile
 import unittest
 
 from helping import TOOLS, defined, example, needs_defined, tool
@@ -23,12 +24,61 @@ name = "a"
 kind = "ospf"
 [[router]]
 name = "b"
-prefixes = ["10.0.6.0/24 1"]
 [[link]]
-ends = ["a", "b"]
+a = "a"
+b = "b"
 delay = 20
 cost = 10
+[[prefix]]
+router = "b"
+net = "10.0.6.0/24"
+cost = 1
 """
+
+LAB = {"r1": """interface eth0
+ ip address 10.0.12.1/24
+interface eth1
+ ip address 10.255.0.1/32
+ ip ospf area 0
+interface eth2
+ ip address 192.168.1.1/24
+interface eth3
+ ip ospf area 0
+interface eth4
+ ip address 10.0.13.1/24
+interface lo
+ ip address 10.255.0.1/32
+router ospf
+ network 0.0.0.0/0 area 0
+ passive-interface default
+ no passive-interface eth0
+router ospf6
+ interface eth9 area 0
+ exit
+ip forwarding
+""", "r2": """hostname ospfd
+interface eth0
+ ip address 10.0.12.2/24
+interface eth1
+ ip address 10.0.23.2/24
+interface eth2
+ ip address 172.16.0.2/24
+router ospf vrf RED
+ network 10.0.12.0/24 area 0
+ redistribute connected
+router rip
+ network eth2
+""", "r3": """interface eth0
+ ip address 10.0.23.3/24
+interface eth1
+ ip address 172.16.0.3/24
+interface eth2
+ ip address 10.0.13.3/24
+router rip
+ network 172.16.0.0/16
+""", "h1": """interface eth0
+ ip address 192.168.1.100/24
+""", "h2": "hostname h2\n"}
 
 
 def path(name: str) -> str:
@@ -97,6 +147,48 @@ class Forms(unittest.TestCase):
                      "link r1 r2: cost 5 and 10 the other way; a link has one cost, the first is taken"):
             self.assertIn("import: " + line, told)
 
+    def test_frr_lab(self):
+        """Hosts, passive and unnumbered interfaces, and two protocols: what is linked, told, and left out."""
+        with tempfile.TemporaryDirectory() as folder:
+            for name, text in LAB.items():
+                os.mkdir(os.path.join(folder, name))
+                with open(os.path.join(folder, name, "frr.conf"), "w", encoding="ascii") as file:
+                    file.write(text)
+            case, told = self.taken(folder)
+        self.assertEqual(case[4:-2], [
+            "router r1 ospf", "router r2 ospf", "router r3 rip", "link r1 r2 10 10",
+            "prefix r1 10.255.0.1/32 1", "prefix r1 192.168.1.0/24 10", "prefix r1 10.0.13.0/24 10",
+            "prefix r2 10.0.23.0/24 10", "prefix r2 172.16.0.0/24 10", "prefix r3 172.16.0.0/24 1"])
+        for line in ("h1: it runs neither OSPF nor RIP; not taken", "h2: it runs neither OSPF nor RIP; not taken",
+                     "r1: interface eth1: it is unnumbered (10.255.0.1/32), so what is at its other end isn't known; "
+                     "not taken", 'r1: "interface eth9 area 0" not taken',
+                     "r1: interface eth3: it has no address, so what is at its other end isn't known; not taken",
+                     'r2: "router ospf vrf RED": vrf RED not taken',
+                     "r2: RIP beside OSPF: a router has one protocol, and OSPF is taken",
+                     "r3: interface eth0: 10.0.23.0/24 isn't told by rip; not taken"):
+            self.assertIn("import: " + line, told)
+        self.assertFalse([line for line in told if "forwarding" in line])
+
+    def test_topotest_without_ospf(self):
+        """A link on which one end has no OSPF, and a host."""
+        ospf = {"ospf": {"area": "0.0.0.0"}}
+        routers = {"r1": {"links": {"r2": ospf, "r2-x": {}, "h": ospf}, "rip": {}},
+                   "r2": {"links": {"r1": ospf, "r1-x": ospf}}, "h": {"links": {"r1": {}}}}
+        case, told = self.taken(text=json.dumps({"routers": routers}))
+        self.assertEqual([line for line in case if line.startswith("link")], ["link r1 r2 10 10", "link r1 h 10 10"])
+        self.assertEqual(told, ["import: h: no protocol is named; ospf is taken",
+                                "import: r1: RIP beside OSPF: a router has one protocol, and OSPF is taken",
+                                "import: link r1 r2: no ospf on it at r1; not taken"])
+
+    @GRAPHS
+    def test_given_networks(self):
+        """A network that a router has of its own is given to no other, and a cost too great is told."""
+        graph = {"nodes": [{"id": "a"}, {"id": "b", "prefixes": "10.0.0.0/24"}],
+                 "links": [{"source": "a", "target": "b", "LinkSpeedRaw": 1000}]}
+        case, told = self.taken(text=json.dumps(graph))
+        self.assertEqual(case[7:9], ["prefix a 10.0.1.0/24 1", "prefix b 10.0.0.0/24 1"])
+        self.assertIn("import: link a b: cost 100000000 is outside 1 to 65535; the nearest is taken", told)
+
     def test_toml(self):
         """A case in TOML, with links and commands in words."""
         case, told = self.taken(text=TOML)
@@ -104,6 +196,9 @@ class Forms(unittest.TestCase):
                                                 "@5 a down 0", "@5 b down 0", "@6 a cmd 010a090000100002",
                                                 "@7 b cmd 020a00060018", "end"])
         self.assertEqual(told, [])
+        tables = TOML.replace('"@2 a cmd 41"', '{group = 2, router = "a", cmd = "41"}')
+        self.assertEqual(self.taken(text=tables + "metric = 3\n"), (case, [
+            "import: prefix 1: metric not taken; known are cost, net, router"]))
 
     def test_case_with_words(self):
         """A case whose feed is in words becomes the case that it means."""
@@ -112,6 +207,9 @@ class Forms(unittest.TestCase):
         words = words.replace(b"@120 a up 1\n@120 d up 1\n", b"@120 up a d\n")
         self.assertEqual(tool("import", text=words).stdout, text)
         self.assertEqual(tool("import", text=text).stdout, text)
+        backend = text.replace(b"router b ", b"router bend ").replace(b"link a b ", b"link a bend ")
+        backend = backend.replace(b"b c", b"bend c").replace(b"feed\n", b"feed\n@60 down a bend\n")
+        self.assertIn(b"\n@60 bend down 0\n", tool("import", text=backend).stdout)
 
     @needs_defined
     def test_the_program_takes_them(self):
@@ -127,15 +225,18 @@ class BadInputs(unittest.TestCase):
         """Each with a part of what is told."""
         named = b'period=1\n[[router]]\nname="a"\n'
         cases = ((b"", "looks like none of"), (b"{", "no JSON"), (b"{}", "no JSON of networkx"),
-                 (b"period = ", "no TOML"), (b"colour = 1", 'has the key "colour"'),
-                 (b'routers = "x"', 'has the key "routers"'),
+                 (b"period = ", "no TOML"), (b'routers = "x"', "the file: routers not taken"),
+                 (named + b"[[feed]]\ngroup=1\nrouter='a'", "none of cmd, down and up"),
                  (b'[[router]]\nname="a"\nkind="bgp"', 'kind "bgp"'), (b"period=0\n" + named[9:], "range"),
-                 (named + b'[[link]]\nends=["a","b"]', "no router b"),
+                 (named + b'[[link]]\na="a"\nb="b"', "no router b"), (named + b'[[link]]\na="a"', "b of a link is missing"),
                  (b'feed=["@5 down a b"]\n' + named, "no router is called b"),
                  (b'feed=["@999 a cmd 41"]\n' + named, "group 999, and the last one is 199"),
                  (b'feed=["@5 a shut 1"]\n' + named, "neither words"),
-                 (b'{"routers": []}', "no topology of a topotest"), (b"defined 1\n", "no line feed"),
+                 (b'{"routers": []}', "no topology of a topotest"), (b"defined 1\n", 'expected "period N"'),
+                 (b"defined 1\r\n", "carriage return"),
                  (b"<graphml", "no GraphML"))
+        self.assertIn(b"--reference nan isn't above 0", tool("import", "--reference", "nan", text=named).stderr)
+        self.assertIn(b"--delay 0 isn't from 1 to 1000000", tool("import", "--delay", "0", text=named).stderr)
         for text, words in cases:
             done = tool("import", text=text)
             self.assertNotEqual(done.returncode, 0, text)

@@ -7,7 +7,7 @@ import unittest
 
 from helping import example, example_names, generated, loaded, needs, tool
 from library import internet, rowwords
-from library.packets import HELLO, MALFORMED, NORMAL_OPTIONS, UPDATE, Packet
+from library.packets import ACKNOWLEDGEMENT, HELLO, MALFORMED, NORMAL_OPTIONS, UPDATE, Packet
 from library.reading import Run, read_run
 from model.events import MSG
 from model.guests.ospf.lsa import ROUTER_LSA, links_of
@@ -16,6 +16,7 @@ from model.guests.rip.wire import IP, ANY_FAMILY
 
 pcap = loaded("pcap")
 COMMENT = 0x100000
+LEAST_ROUTER_LSA = 24
 FIELDS = ("frame.comment", "_ws.malformed", "_ws.expert.severity", "frame.protocols", "frame.time_epoch",
           "frame.interface_name")
 PROTOCOLS = {"ospf": "raw:ip:ospf", "rip": "raw:ip:udp:rip"}
@@ -42,6 +43,8 @@ def deserves_a_mark(packet: Packet) -> bool:
         return packet.decoded.body.options != NORMAL_OPTIONS
     if packet.kind == UPDATE:
         return any(lsa.head.kind != ROUTER_LSA or links_of(lsa.body) is None for lsa in packet.decoded.body)
+    if packet.kind == ACKNOWLEDGEMENT:
+        return any(head.kind != ROUTER_LSA or head.length < LEAST_ROUTER_LSA for head in packet.decoded.body)
     if packet.protocol == "rip":
         return any(entry.family not in (IP, ANY_FAMILY) for entry in packet.decoded[1])
     return packet.protocol == "flood"
