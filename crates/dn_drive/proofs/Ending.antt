@@ -25,6 +25,9 @@ use Rattle.dn_drive.specs.Allowed.{end_of}
 use Rattle.dn_drive.specs.Endings.{IsFed, IsWholeRun, IsCutRun, IsOpenRun, StandsAt}
 use Rattle.dn_drive.proofs.Going.{Goes, IsOn, not_past}
 
+absurd_bool : {A : Type 0} → false ≡ true → A
+absurd_bool is = cc
+
 module _ {S : Type 0} (net : Network S) (feed : List External) where
   fed_is : (f : Fabric S) (xs : List External) → IsOn net feed f xs → f.live.stopped ≡ false → IsFed net feed xs f
   fed_is f xs o r = record { running = r; reached = o.reached; fed = o.fed }
@@ -47,9 +50,12 @@ module _ {S : Type 0} (net : Network S) (feed : List External) where
         quiet = q;
         boundary = boundary;
         accepted = accepted;
-        rows = rest.rows boundary ∙ ap (shown_rows net) accepted;
         uncut = ap (is_cut net) (sym accepted) ∙ sym (rest.cut boundary) ∙ u;
-        done = λ n l. rest.done n l ∙ ap (λ a. lockstep net a n) accepted;
+        shows = record {
+          rows = rest.rows boundary ∙ ap (shown_rows net) accepted;
+          cut = rest.cut boundary ∙ ap (is_cut net) accepted;
+          done = λ whole n l. rest.done n l ∙ ap (λ a. lockstep net a n) accepted;
+        };
       }
 
   end_cases : (f : Fabric S) (xs : List External) → IsOn net feed f xs → f.live.stopped ≡ false → f.live.cut ≡ false → (is_quiet f.live.world ≡ true → IsAtRest net f.live) → (q k : Bool) → is_quiet f.live.world ≡ q → can_commit net.header f.live.world ≡ k → StandsAt net feed (if q && not k then Whole else Open) f
@@ -75,9 +81,14 @@ module _ {S : Type 0} (net : Network S) (feed : List External) where
       let goes : Continues feed w = subst (Continues feed) (sym o.reached.world) (continues net.header f.live.world xs o.goes) in
       let off : is_cut_off net w ≡ true = ap (is_cut_off net) o.reached.world ∙ sym o.reached.cut ∙ c in
       let shown : committed net w ≡ shown_rows net feed = cut_committed net feed play fed w sound goes off in
+      let cut_is : is_cut net feed ≡ true = cut_off_is_cut net feed play fed w sound goes off in
       record {
         rest = xs;
         fed = fed_is f xs o r;
-        rows = o.reached.rows ∙ ap (committed net) (sym o.reached.world) ∙ shown;
-        cut = cut_off_is_cut net feed play fed w sound goes off;
+        cut = cut_is;
+        shows = record {
+          rows = o.reached.rows ∙ ap (committed net) (sym o.reached.world) ∙ shown;
+          cut = c ∙ sym cut_is;
+          done = λ whole. absurd_bool (sym whole ∙ c);
+        };
       }

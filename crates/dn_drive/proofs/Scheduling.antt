@@ -21,7 +21,7 @@ use Rattle.dn_fabric.specs.Fabrics.{Fabric, IsNetworkOf, stepped}
 use Rattle.dn_fabric.specs.Work.{can_commit}
 use Rattle.dn_drive.specs.Allowed.{is_same_external, starts_later, rest_after, is_allowed_here, is_allowed}
 use Rattle.dn_drive.specs.Choices.{choices, commit_steps, drawn, feed_steps, next_group, numbers, open_feed, passing, schedule}
-use Rattle.dn_drive.specs.Driving.{IsOpening}
+use Rattle.dn_fabric.specs.Driven.{IsOpening}
 use Rattle.dn_drive.proofs.Allowing.{allowed_is, both_from}
 use Rattle.dn_drive.proofs.Following.{if_true, if_false}
 use Rattle.dn_drive.proofs.Going.{Goes}

@@ -15,7 +15,8 @@ use Rattle.dn_world.specs.Runs.{IsFedFrom}
 use Rattle.dn_world.proofs.Balance.{both_true}
 use Rattle.dn_fabric.specs.Fabrics.{Fabric, IsNetworkOf, IsReached, HasStepped, opening_fabric}
 use Rattle.dn_drive.specs.Allowed.{is_fed, rest_after, is_allowed_here, is_allowed}
-use Rattle.dn_drive.specs.Driving.{IsOpening, IsDriven, IsOfSameNetwork}
+use Rattle.dn_fabric.specs.Driven.{IsOpening}
+use Rattle.dn_drive.specs.Driving.{IsDriven, IsOfSameNetwork}
 use Rattle.dn_drive.proofs.Networks.{somewhere}
 use Rattle.dn_drive.proofs.Going.{IsOn, step_on}
 use Rattle.dn_drive.proofs.Following.{Follows, follows_on}

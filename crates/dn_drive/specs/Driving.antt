@@ -1,11 +1,6 @@
 -- What holds of a fabric that is driven.
 use Rattle.std.specs.Prelude.{◌≡◌, ℕ, ◌≤◌, false, length, get_or}
-use Rattle.dn_fabric.specs.Fabrics.{Fabric, opening_fabric}
-
--- a fabric before its first step, with a guest for each router
-pub record IsOpening {S : Type 0} (f : Fabric S) : Type 0 where
-  pub one_each : length f.live.openings ≡ length f.live.header.routers
-  pub is : f ≡ opening_fabric f.live.header f.live.openings
+use Rattle.dn_fabric.specs.Fabrics.{Fabric}
 
 -- no call was refused, no router is leased, there is a router, and each one has its guest and its part
 pub record IsDriven {S : Type 0} (f : Fabric S) : Type 0 where

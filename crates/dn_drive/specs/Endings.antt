@@ -1,11 +1,12 @@
 -- How a drive of a case ends.
-use Rattle.std.specs.Prelude.{◌≡◌, ℕ, ◌<◌, true, false, List, []}
+use Rattle.std.specs.Prelude.{◌≡◌, true, false, List, []}
 use Rattle.dn_model.specs.declared.feed.External.{External}
 use Rattle.dn_model.specs.Network.{Network, routers}
-use Rattle.dn_model.specs.Settled.{is_cut, lockstep, shown_rows}
-use Rattle.dn_world.specs.World.{part, opening, horizon, is_quiet}
+use Rattle.dn_model.specs.Settled.{is_cut}
+use Rattle.dn_world.specs.World.{opening, horizon, is_quiet}
 use Rattle.dn_world.specs.Runs.{IsFedFrom}
 use Rattle.dn_fabric.specs.Fabrics.{Fabric, IsReached}
+use Rattle.dn_fabric.specs.Driven.{ShowsRun}
 use Rattle.dn_drive.specs.declared.ended.Ended.{Ended}
 use Rattle.dn_drive.specs.declared.ended.Ended.TheVariants.{Whole, Cut, Illegal, Open}
 
@@ -23,22 +24,21 @@ module _ {S : Type 0} (net : Network S) (feed : List External) where
     pub reached : IsReached net f
     pub fed : IsFedFrom net (opening (routers net)) feed f.journal rest
 
-  -- the end of the run of the case: all of it was accepted, nothing waits or flies, and all is committed. The rows are those of the lockstep trace, which isn't cut, and each router has handled its lockstep list
+  -- the end of the run of the case: all of it was accepted, nothing waits or flies, and all is committed; and the fabric shows the run, which isn't cut
   pub record IsWholeRun (f : Fabric S) : Type 0 where
     pub fed : IsFed [] f
     pub quiet : is_quiet f.live.world ≡ true
     pub boundary : f.live.world.boundary ≡ horizon net.header f.live.world
     pub accepted : f.live.world.accepted ≡ feed
-    pub rows : f.live.rows ≡ shown_rows net feed
     pub uncut : is_cut net feed ≡ false
-    pub done : (r : ℕ) → r < routers net → (part f.live.world r).done ≡ lockstep net feed r
+    pub shows : ShowsRun net feed f.live
 
-  -- a run that was cut: the rows are those of the lockstep trace, which is cut there
+  -- a run that was cut: the fabric shows the run, which is cut there
   pub record IsCutRun (f : Fabric S) : Type 0 where
     pub rest : List External
     pub fed : IsFed rest f
-    pub rows : f.live.rows ≡ shown_rows net feed
     pub cut : is_cut net feed ≡ true
+    pub shows : ShowsRun net feed f.live
 
   -- a run that is neither at its end nor cut
   pub record IsOpenRun (f : Fabric S) : Type 0 where

@@ -4,9 +4,10 @@ ghost use Rattle.std.specs.Prelude.{◌≡◌, IfOk};
 ghost use Rattle.dn_model.specs.Cases.{IsRecording};
 ghost use Rattle.dn_model.specs.Network.{Network, routers};
 ghost use Rattle.dn_world.specs.World.{opening};
+ghost use Rattle.dn_fabric.specs.Driven.{IsOpening};
 ghost use Rattle.dn_fabric.specs.Fabrics.{IsNetworkOf};
 ghost use Rattle.dn_drive.specs.Allowed.{rerun, legal_front};
-ghost use Rattle.dn_drive.specs.Driving.{IsOpening, IsOfSameNetwork};
+ghost use Rattle.dn_drive.specs.Driving.{IsOfSameNetwork};
 ghost use Rattle.dn_drive.specs.Endings.{StandsAt};
 
 use crate::Ended;

@@ -4,6 +4,7 @@ pub mod Fabrics
 pub mod Holds
 pub mod Answers
 pub mod Promises
+pub mod Driven
 pub mod Work
 pub mod Commits
 pub mod Signs

@@ -19,7 +19,7 @@ use Rattle.dn_model.specs.Settled.{row_limit, IsPrefixOf, IsSettled, IsSettledBe
 use Rattle.dn_model.specs.SoFar.{IsRunSoFar, by_router, next_emitted}
 use Rattle.dn_lists.proofs.Lists.{by_test, pairs_filter}
 use Rattle.dn_lists.proofs.Sorting.{rises_from_sorted, sorted_from_rises}
-use Rattle.dn_model.proofs.Waves.{no_other_settled, lockstep_settled_below}
+use Rattle.dn_model.proofs.Waves.{no_other_settled, no_other_settled_below, lockstep_settled_below}
 use Rattle.dn_model.proofs.Rows.{joined_same, next_row, last_row, all_permutation, all_back}
 use Rattle.dn_model.proofs.Steps.{at_own, at_other, so_far_step, so_far_moved}
 use Rattle.dn_lockstep.specs.Least.{IsUpTo, IsLeast}
@@ -105,8 +105,11 @@ module _ {S : Type 0} (net : Network S) where
           let same = no_other_settled net feed so.timed so.fed (by_router (rows net feed)) settled in
           record {
             place = place_at_end none;
+            of_router = same;
             settled = settled;
             settled_below = λ bound. settled_below_same bound (by_router (rows net feed)) (lockstep net feed) same (lockstep_settled_below net feed so.timed so.fed bound);
+            no_other = λ f is r l. no_other_settled net feed so.timed so.fed f is r l ∙ sym (same r l);
+            no_other_below = λ bound f is r l. no_other_settled_below net feed so.timed so.fed bound f is r l ∙ ap (below bound) (sym (same r l));
             nodes = λ r l. so.nodes r l ∙ ap (λ (es : List Event). Some (state net r es)) (ap (λ (es : List Event). by_router es r) (sym (all_done none)) ∙ same r l);
           }
 

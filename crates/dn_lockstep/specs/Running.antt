@@ -6,8 +6,8 @@ use Rattle.dn_model.specs.declared.key.Key.{Key}
 use Rattle.dn_model.specs.declared.event.Event.{Event}
 use Rattle.dn_model.specs.declared.feed.External.{External}
 use Rattle.dn_model.specs.Cases.{Heading}
-use Rattle.dn_model.specs.Network.{Network, routers, state}
-use Rattle.dn_model.specs.Settled.{IsTimed, IsFeedOf, IsSettled, IsSettledBelow, lockstep, rows}
+use Rattle.dn_model.specs.Network.{Network, Family, routers, state}
+use Rattle.dn_model.specs.Settled.{IsTimed, IsFeedOf, IsSettled, IsSettledBelow, AreSame, below, lockstep, rows}
 use Rattle.dn_model.specs.SoFar.{IsRunSoFar, IsWired, by_router}
 
 -- an engine as plain data: the header, each router's node, the events that wait in no particular order, how many rows were handled and the last of them, and whether the engine ran out of memory
@@ -41,11 +41,14 @@ pub record StandsIn {S : Type 0} (net : Network S) (feed : List External) (e : R
   pub nodes : (r : ℕ) → r < routers net → slice_get e.nodes r ≡ Some (state net r (by_router (first_rows net feed e.place) r))
   pub unspent : e.spent ≡ false
 
--- the engine stands after all lockstep rows: these by router are the settled family, also below every key, and each node is the replay of its router's lockstep list
+-- the engine stands after all lockstep rows: these by router are a settled family, and no other is, the same below every key; and each router has handled its lockstep list
 pub record IsAtEnd {S : Type 0} (net : Network S) (feed : List External) (e : Running S) : Type 0 where
   pub place : e.place ≡ length (rows net feed)
+  pub of_router : (r : ℕ) → r < routers net → by_router (rows net feed) r ≡ lockstep net feed r
   pub settled : IsSettled net feed (by_router (rows net feed))
   pub settled_below : (bound : Key) → IsSettledBelow net feed bound (by_router (rows net feed))
+  pub no_other : (f : Family) → IsSettled net feed f → AreSame net feed f (by_router (rows net feed))
+  pub no_other_below : (bound : Key) (f : Family) → IsSettledBelow net feed bound f → (r : ℕ) → r < routers net → below bound (f r) ≡ below bound (by_router (rows net feed) r)
   pub nodes : (r : ℕ) → r < routers net → slice_get e.nodes r ≡ Some (state net r (lockstep net feed r))
 
 -- the messages among some events

@@ -26,7 +26,8 @@
 //!
 //! The one contract upwards: an engine that `new` made stands in the lockstep run of its case, for every
 //! guest, and `next` keeps it so: after n answers `Row` it stands after the first n lockstep rows, each
-//! node is the replay of its router's rows, and at `End` the rows by router are the settled family.
+//! node is the replay of its router's rows, and at `End` the rows of each router are its lockstep list: a
+//! settled family, and no other is.
 #![tactic(auto)]
 
 mod agenda;

@@ -5,7 +5,8 @@ use Rattle.dn_io.specs.Streams.{behind, PutsFront}
 use Rattle.dn_model.specs.Cases.{Recording}
 use Rattle.dn_top.specs.declared.status.Status.{Status}
 use Rattle.dn_top.specs.declared.status.Status.TheVariants as status
-use Rattle.dn_top.specs.Promises.{HasCase, IsOtherTrace, IsCaseRefusal, AnswersRun, AnswersCheck, written, trace_of, is_cut_case, input_limit, is_of_reading, is_of_writing, is_of_comparing, is_of_case, is_of_command, is_of_check, is_of_whole_input}
+use Rattle.dn_top.specs.Promises.{HasCase, IsOtherTrace, IsCaseRefusal, AnswersRun, AnswersCheck, written, trace_of, is_cut_case, input_limit, is_of_reading, is_of_comparing, is_of_case, is_of_command, is_of_whole_input}
+use Rattle.dn_top.specs.Drives.{Writes}
 
 absurd_bool : {A : Type 0} → false ≡ true → A
 absurd_bool is = cc
@@ -102,31 +103,31 @@ refusal_of_case input status.WriteFault refused = refl
 
 -- ---- answers to a case
 
-pub case_run : (input : List ℕ) (c : Recording) (size : ℕ) (s : Status) (old now : Option (List ℕ)) → HasCase input c size → (s ≡ status.Ok → is_cut_case c ≡ false) → (s ≡ status.Cut → is_cut_case c ≡ true) → (s ≡ status.Ok → now ≡ behind old (written c)) → (s ≡ status.Cut → now ≡ behind old (written c)) → PutsFront old now (written c) → is_of_writing s ≡ true → AnswersRun s input old now
-case_run input c size status.Ok old now has ok cut whole whole_cut front only = record { case = c; size = size; has = has; is = ok refl; text = whole refl }
-case_run input c size status.Cut old now has ok cut whole whole_cut front only = record { case = c; size = size; has = has; is = cut refl; text = whole_cut refl }
-case_run input c size status.WriteFault old now has ok cut whole whole_cut front only = record { case = c; size = size; has = has; front = front }
-case_run input c size status.NoMemory old now has ok cut whole whole_cut front only = inr (record { case = c; size = size; has = has; front = front })
-case_run input c size status.ReadFault old now has ok cut whole whole_cut front only = cc
-case_run input c size status.TooBig old now has ok cut whole whole_cut front only = cc
-case_run input c size (status.Differs p) old now has ok cut whole whole_cut front only = cc
-case_run input c size status.Usage old now has ok cut whole whole_cut front only = cc
-case_run input c size (status.Illegal i) old now has ok cut whole whole_cut front only = cc
-case_run input c size status.Open old now has ok cut whole whole_cut front only = cc
-case_run input c size (status.BadCase f) old now has ok cut whole whole_cut front only = cc
+pub case_run : (input : List ℕ) (c : Recording) (size : ℕ) (s : Status) (old now : Option (List ℕ)) → HasCase input c size → Writes c (written c) s old now → AnswersRun s input old now
+case_run input c size status.Ok old now has writes = record { case = c; size = size; has = has; is = writes.0; text = writes.1 }
+case_run input c size status.Cut old now has writes = record { case = c; size = size; has = has; is = writes.0; text = writes.1 }
+case_run input c size status.WriteFault old now has writes = record { case = c; size = size; has = has; front = writes }
+case_run input c size status.NoMemory old now has writes = inr (record { case = c; size = size; has = has; front = writes })
+case_run input c size status.ReadFault old now has writes = absurd writes
+case_run input c size status.TooBig old now has writes = absurd writes
+case_run input c size (status.Differs p) old now has writes = absurd writes
+case_run input c size status.Usage old now has writes = absurd writes
+case_run input c size (status.Illegal i) old now has writes = absurd writes
+case_run input c size status.Open old now has writes = absurd writes
+case_run input c size (status.BadCase f) old now has writes = absurd writes
 
-pub writing_of_case : (s : Status) → is_of_writing s ≡ true → is_of_case s ≡ true
-writing_of_case status.Ok only = refl
-writing_of_case status.Cut only = refl
-writing_of_case status.WriteFault only = refl
-writing_of_case status.NoMemory only = refl
-writing_of_case status.ReadFault only = only
-writing_of_case status.TooBig only = only
-writing_of_case (status.Differs p) only = refl
-writing_of_case status.Usage only = only
-writing_of_case (status.Illegal i) only = refl
-writing_of_case status.Open only = refl
-writing_of_case (status.BadCase f) only = refl
+pub writes_of_case : (c : Recording) (text : List ℕ) (s : Status) (old now : Option (List ℕ)) → Writes c text s old now → is_of_case s ≡ true
+writes_of_case c text status.Ok old now writes = refl
+writes_of_case c text status.Cut old now writes = refl
+writes_of_case c text status.WriteFault old now writes = refl
+writes_of_case c text status.NoMemory old now writes = refl
+writes_of_case c text status.ReadFault old now writes = absurd writes
+writes_of_case c text status.TooBig old now writes = absurd writes
+writes_of_case c text (status.Differs p) old now writes = absurd writes
+writes_of_case c text status.Usage old now writes = absurd writes
+writes_of_case c text (status.Illegal i) old now writes = absurd writes
+writes_of_case c text status.Open old now writes = absurd writes
+writes_of_case c text (status.BadCase f) old now writes = absurd writes
 
 pub case_check : (input : List ℕ) (c : Recording) (size : ℕ) (s : Status) → HasCase input c size → (s ≡ status.Ok → drop size input ≡ trace_of c) → (s ≡ status.Ok → is_cut_case c ≡ false) → (s ≡ status.Cut → drop size input ≡ trace_of c) → (s ≡ status.Cut → is_cut_case c ≡ true) → ((place : ℕ) → s ≡ status.Differs place → IsOtherTrace input c size place) → is_of_comparing s ≡ true → AnswersCheck s input
 case_check input c size status.Ok has same ok same_cut cut differs only = record { case = c; size = size; has = has; is = ok refl; same = same refl }
@@ -182,63 +183,8 @@ reading_of_command status.WriteFault only = refl
 reading_of_command status.NoMemory only = refl
 reading_of_command status.TooBig only = refl
 
-pub check_of_command : (s : Status) → is_of_check s ≡ true → is_of_command s ≡ true
-check_of_command status.Ok only = refl
-check_of_command (status.Differs p) only = refl
-check_of_command status.Usage only = only
-check_of_command (status.Illegal i) only = refl
-check_of_command status.Open only = refl
-check_of_command (status.BadCase f) only = refl
-check_of_command status.Cut only = refl
-check_of_command status.ReadFault only = refl
-check_of_command status.WriteFault only = refl
-check_of_command status.NoMemory only = refl
-check_of_command status.TooBig only = refl
-
-pub reading_of_check : (s : Status) → is_of_reading s ≡ true → is_of_check s ≡ true
-reading_of_check status.Ok only = refl
-reading_of_check (status.Differs p) only = refl
-reading_of_check status.Usage only = only
-reading_of_check (status.Illegal i) only = refl
-reading_of_check status.Open only = refl
-reading_of_check (status.BadCase f) only = refl
-reading_of_check status.Cut only = refl
-reading_of_check status.ReadFault only = refl
-reading_of_check status.WriteFault only = only
-reading_of_check status.NoMemory only = refl
-reading_of_check status.TooBig only = refl
-
-pub comparing_of_check : (s : Status) → is_of_comparing s ≡ true → is_of_check s ≡ true
-comparing_of_check status.Ok only = refl
-comparing_of_check (status.Differs p) only = refl
-comparing_of_check status.Usage only = only
-comparing_of_check (status.Illegal i) only = refl
-comparing_of_check status.Open only = refl
-comparing_of_check (status.BadCase f) only = refl
-comparing_of_check status.Cut only = refl
-comparing_of_check status.ReadFault only = refl
-comparing_of_check status.WriteFault only = only
-comparing_of_check status.NoMemory only = refl
-comparing_of_check status.TooBig only = refl
-
-pub refusal_of_check : (input : List ℕ) (s : Status) → IsCaseRefusal input s → is_of_check s ≡ true
-refusal_of_check input status.Ok refused = refl
-refusal_of_check input (status.Differs p) refused = refl
-refusal_of_check input status.Usage refused = absurd refused
-refusal_of_check input (status.Illegal i) refused = absurd refused
-refusal_of_check input status.Open refused = absurd refused
-refusal_of_check input (status.BadCase f) refused = refl
-refusal_of_check input status.Cut refused = refl
-refusal_of_check input status.ReadFault refused = refl
-refusal_of_check input status.WriteFault refused = absurd refused
-refusal_of_check input status.NoMemory refused = refl
-refusal_of_check input status.TooBig refused = refl
-
 pub never_usage : {A : Type 0} (s : Status) → is_of_command s ≡ true → s ≡ status.Usage → A
 never_usage s only is = absurd_bool (subst (λ (t : Status). is_of_command t ≡ true) is only)
-
-pub never_write_fault : {A : Type 0} (s : Status) → is_of_check s ≡ true → s ≡ status.WriteFault → A
-never_write_fault s only is = absurd_bool (subst (λ (t : Status). is_of_check t ≡ true) is only)
 
 pub never_read_fault : {A : Type 0} (s : Status) → is_of_case s ≡ true → s ≡ status.ReadFault → A
 never_read_fault s only is = absurd_bool (subst (λ (t : Status). is_of_case t ≡ true) is only)

@@ -16,10 +16,7 @@ use Rattle.dn_trace.specs.Differing.{DiffersAt}
 use Rattle.dn_top.specs.declared.status.Status.{Status}
 use Rattle.dn_top.specs.declared.status.Status.TheVariants as status
 use Rattle.dn_top.specs.Promises.{HasCase, IsBadCase, HasItsTrace, HasOtherTrace, AnswersRun, AnswersCheck, is_cut_case, trace_of, input_limit}
-use Rattle.dn_top.specs.declared.words.Command.{Command}
-use Rattle.dn_top.specs.declared.words.Command.TheVariants as command
-use Rattle.dn_top.specs.Words.{plain_of}
-use Rattle.dn_top.specs.Completeness.{Owes, HasRun, RunOwes, whole_run, cut_run, no_case, too_big, CheckOwes, whole_trace, cut_trace, other_trace, no_case_to_check, too_big_to_check, IsCalm, IsAnswered}
+use Rattle.dn_top.specs.Completeness.{HasRun, RunOwes, whole_run, cut_run, no_case, too_big, CheckOwes, whole_trace, cut_trace, other_trace, no_case_to_check, too_big_to_check, IsCalm, IsAnswered}
 
 absurd_bool : {A : Type 0} → false ≡ true → A
 absurd_bool is = cc
@@ -192,23 +189,3 @@ pub check_completes : (told : Option (List ℕ)) (s : Status) (reads read writes
 check_completes None s reads read writes wrote answers read_fault = tt
 check_completes (Some input) s reads read writes wrote answers read_fault = λ owed owes calm_source calm_sink.
     answered (check_owes_one input) owed s owes (check_gives input s answers (λ is. calm reads read calm_source (read_fault is)))
-
--- ---- by the words
-
-pub for_run : (cmd : Option Command) (told : Option (List ℕ)) (s : Status) (reads read writes wrote : ℕ) → cmd ≡ Some command.Run → IfSome told (λ input. (owed : Status) → RunOwes input owed → IsCalm reads read → IsCalm writes wrote → IsAnswered owed s) → IfSome cmd (λ command. IfSome told (λ input. (owed : Status) → Owes command input owed → IsCalm reads read → IsCalm writes wrote → IsAnswered owed s))
-for_run cmd told s reads read writes wrote is done =
-    subst (λ (x : Option Command). IfSome x (λ command. IfSome told (λ input. (owed : Status) → Owes command input owed → IsCalm reads read → IsCalm writes wrote → IsAnswered owed s))) (sym is) done
-
-pub for_lockstep : (cmd : Option Command) (told : Option (List ℕ)) (s : Status) (reads read writes wrote : ℕ) → cmd ≡ Some command.Lockstep → IfSome told (λ input. (owed : Status) → RunOwes input owed → IsCalm reads read → IsCalm writes wrote → IsAnswered owed s) → IfSome cmd (λ command. IfSome told (λ input. (owed : Status) → Owes command input owed → IsCalm reads read → IsCalm writes wrote → IsAnswered owed s))
-for_lockstep cmd told s reads read writes wrote is done =
-    subst (λ (x : Option Command). IfSome x (λ command. IfSome told (λ input. (owed : Status) → Owes command input owed → IsCalm reads read → IsCalm writes wrote → IsAnswered owed s))) (sym is) done
-
-pub for_check : (cmd : Option Command) (told : Option (List ℕ)) (s : Status) (reads read writes wrote : ℕ) → cmd ≡ Some command.Check → IfSome told (λ input. (owed : Status) → CheckOwes input owed → IsCalm reads read → IsCalm writes wrote → IsAnswered owed s) → IfSome cmd (λ command. IfSome told (λ input. (owed : Status) → Owes command input owed → IsCalm reads read → IsCalm writes wrote → IsAnswered owed s))
-for_check cmd told s reads read writes wrote is done =
-    subst (λ (x : Option Command). IfSome x (λ command. IfSome told (λ input. (owed : Status) → Owes command input owed → IsCalm reads read → IsCalm writes wrote → IsAnswered owed s))) (sym is) done
-
-pub plain_lockstep : (cmd : Option Command) → cmd ≡ Some command.Lockstep → plain_of cmd ≡ Some command.Lockstep
-plain_lockstep cmd is = ap plain_of is
-
-pub plain_check : (cmd : Option Command) → cmd ≡ Some command.Check → plain_of cmd ≡ Some command.Check
-plain_check cmd is = ap plain_of is

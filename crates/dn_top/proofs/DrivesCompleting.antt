@@ -12,11 +12,9 @@ use Rattle.dn_journal.proofs.JournalLaws.{one_first_bad}
 use Rattle.dn_top.specs.declared.status.Status.{Status}
 use Rattle.dn_top.specs.declared.status.Status.TheVariants as status
 use Rattle.dn_top.specs.declared.words.Schedule.{Schedule}
-use Rattle.dn_top.specs.declared.words.Command.{Command}
-use Rattle.dn_top.specs.Words.{plain_of}
 use Rattle.dn_top.specs.Promises.{HasRerun, HasShaken, IsBadCase, IsBadJournal, IsBehindBad, AnswersRerun, AnswersShake, outcome_of, steps_of, journal_lines, lines_before, input_limit}
 use Rattle.dn_top.specs.Drives.{HasOneJournal, is_of_steps}
-use Rattle.dn_top.specs.Completeness.{Owes, RerunOwes, whole_rerun, cut_rerun, illegal_rerun, open_rerun, no_case_to_rerun, no_journal, too_big_to_rerun, ShakeOwes, whole_shake, cut_shake, open_shake, no_case_to_shake, too_big_to_shake, IsCalm, IsAnswered}
+use Rattle.dn_top.specs.Completeness.{RerunOwes, whole_rerun, cut_rerun, illegal_rerun, open_rerun, no_case_to_rerun, no_journal, too_big_to_rerun, ShakeOwes, whole_shake, cut_shake, open_shake, no_case_to_shake, too_big_to_shake, IsCalm, IsAnswered}
 use Rattle.dn_top.proofs.Completing.{same_case, no_bad_line, same_fault, fault_at, too_long, calm}
 
 -- the status that says this
@@ -176,12 +174,3 @@ shake_completes w (Some input) s old now reads read writes wrote answers read_fa
       | inl given ↦ inl (one_shake w input s due (owed_shake w input s given) (owed_shake w input due owes))
       | inr none ↦ inr none
     ]
-
--- ---- by the words
-
-pub for_command : (cmd : Option Command) (command : Command) (told : Option (List ℕ)) (s : Status) (reads read writes wrote : ℕ) → cmd ≡ Some command → IfSome told (λ input. (owed : Status) → Owes command input owed → IsCalm reads read → IsCalm writes wrote → IsAnswered owed s) → IfSome cmd (λ command. IfSome told (λ input. (owed : Status) → Owes command input owed → IsCalm reads read → IsCalm writes wrote → IsAnswered owed s))
-for_command cmd command told s reads read writes wrote is done =
-    subst (λ (x : Option Command). IfSome x (λ command. IfSome told (λ input. (owed : Status) → Owes command input owed → IsCalm reads read → IsCalm writes wrote → IsAnswered owed s))) (sym is) done
-
-pub plain_command : (cmd : Option Command) (command : Command) → plain_of (Some command) ≡ Some command → cmd ≡ Some command → plain_of cmd ≡ Some command
-plain_command cmd command plain is = ap plain_of is ∙ plain

@@ -2,7 +2,7 @@ pub mod Networks
 pub mod Answering
 pub mod Completing
 pub mod Legal
-pub mod Shown
+pub mod Showing
 pub mod Places
 pub mod Ends
 pub mod DrivesAnswering

@@ -1,20 +1,17 @@
--- What the stages of `rerun` and `shake` know and answer.
-use Rattle.std.specs.Prelude.{◌≡◌, ◌⊎◌, ℕ, Bool, true, false, List, ◌++◌, Option, codes}
+-- What the stages of the commands know and answer.
+use Rattle.std.specs.Prelude.{◌≡◌, ◌⊎◌, ℕ, Bool, true, false, List, Option}
 use Rattle.dn_io.specs.Streams.{behind, PutsFront}
-use Rattle.dn_model.specs.declared.event.Event.{Event}
 use Rattle.dn_model.specs.Cases.{Heading, Recording}
 use Rattle.dn_world.specs.declared.step.Step.{Step}
 use Rattle.dn_fabric.specs.Fabrics.{Fabric, IsNetworkOf}
+use Rattle.dn_fabric.specs.Driven.{ShowsRun}
 use Rattle.dn_drive.specs.declared.ended.Ended.{Ended}
 use Rattle.dn_drive.specs.declared.ended.Ended.TheVariants as ended
-use Rattle.dn_drive.specs.Endings.{IsWholeRun, IsCutRun}
 use Rattle.guest_any.specs.declared.any.AnyGuest.{AnyGuest}
 use Rattle.guest_any.specs.Any.{any}
-use Rattle.dn_case.specs.Spelling.{case_text}
 use Rattle.dn_journal.specs.Reading.{IsJournal}
-use Rattle.dn_trace.specs.Rows.{row_lines}
-use Rattle.dn_trace.specs.declared.stream.Ending.{Ending}
-use Rattle.dn_trace.specs.declared.stream.Ending.TheVariants as ending
+use Rattle.dn_top.specs.declared.written.Shown.{Shown}
+use Rattle.dn_top.specs.declared.written.Shown.TheVariants as shown
 use Rattle.dn_top.specs.declared.status.Status.{Status}
 use Rattle.dn_top.specs.declared.status.Status.TheVariants as status
 use Rattle.dn_top.specs.Promises.{network_of, is_cut_case, has_trace, HasJournal, IsBehindBad}
@@ -26,35 +23,30 @@ pub record IsFabricOf (c : Recording) (f : Fabric AnyGuest) : Type 0 where
   pub header : f.live.header ≡ c.header
   pub network : IsNetworkOf (network_of c.header) any f.live.header f.live.openings
 
--- the fabric was driven to the end of the case's run, or to its cut
-abbrev pub ShowsRun : Recording → Ending → Fabric AnyGuest → Type 0
-ShowsRun c ending.Whole f = IsWholeRun (network_of c.header) c.feed f
-ShowsRun c ending.Cut f = IsCutRun (network_of c.header) c.feed f
+-- the fabric shows the run of the case
+abbrev pub ShowsCase : Recording → Fabric AnyGuest → Type 0
+ShowsCase c f = ShowsRun (network_of c.header) c.feed f.live
 
--- the recording, the line `trace`, these rows, and what ends them
-unfoldable pub driven_text : Recording → List Event → List ℕ → List ℕ
-driven_text c rows ends = case_text c ++ ((codes "trace\n" ++ row_lines c.header.routers rows) ++ ends)
+-- the run whose trace is written: the lockstep run, or what a fabric of the case shows
+abbrev pub IsShown : Recording → Shown → Type 0
+IsShown c shown.Lockstep = Unit {0}
+IsShown c (shown.Driven fabric) = IsFabricOf c fabric.now × ShowsCase c fabric.now
 
 -- ---- answers
 
--- where a text was to be written whose trace ends so: how that went
-abbrev pub Shows : Ending → List ℕ → Status → Option (List ℕ) → Option (List ℕ) → Type 0
-Shows e text status.Ok old now = (e ≡ ending.Whole) × (now ≡ behind old text)
-Shows e text status.Cut old now = (e ≡ ending.Cut) × (now ≡ behind old text)
-Shows e text status.WriteFault old now = PutsFront old now text
-Shows e text status.NoMemory old now = PutsFront old now text
-Shows e text (status.Differs place) old now = ⊥
-Shows e text status.Usage old now = ⊥
-Shows e text (status.BadCase fault) old now = ⊥
-Shows e text status.ReadFault old now = ⊥
-Shows e text status.TooBig old now = ⊥
-Shows e text (status.Illegal number) old now = ⊥
-Shows e text status.Open old now = ⊥
-
--- the status where all of such a text was written
-abbrev pub status_of : Ending → Status
-status_of ending.Whole = status.Ok
-status_of ending.Cut = status.Cut
+-- where a text was to be written that has the trace of the case: how that went
+abbrev pub Writes : Recording → List ℕ → Status → Option (List ℕ) → Option (List ℕ) → Type 0
+Writes c text status.Ok old now = (is_cut_case c ≡ false) × (now ≡ behind old text)
+Writes c text status.Cut old now = (is_cut_case c ≡ true) × (now ≡ behind old text)
+Writes c text status.WriteFault old now = PutsFront old now text
+Writes c text status.NoMemory old now = PutsFront old now text
+Writes c text (status.Differs place) old now = ⊥
+Writes c text status.Usage old now = ⊥
+Writes c text (status.BadCase fault) old now = ⊥
+Writes c text status.ReadFault old now = ⊥
+Writes c text status.TooBig old now = ⊥
+Writes c text (status.Illegal number) old now = ⊥
+Writes c text status.Open old now = ⊥
 
 -- where steps of the case came to this, and the text was to be written if they have a trace: how that went
 abbrev pub Drives : Recording → Ended → List ℕ → Status → Option (List ℕ) → Option (List ℕ) → Type 0

@@ -242,14 +242,6 @@ is_of_reading status.TooBig = true
 is_of_reading status.NoMemory = true
 is_of_reading _ = false
 
--- an answer to a case that was read
-abbrev pub is_of_writing : Status → Bool
-is_of_writing status.Ok = true
-is_of_writing status.Cut = true
-is_of_writing status.WriteFault = true
-is_of_writing status.NoMemory = true
-is_of_writing _ = false
-
 -- an answer to a comparison
 abbrev pub is_of_comparing : Status → Bool
 is_of_comparing status.Ok = true
@@ -269,12 +261,6 @@ is_of_case _ = true
 abbrev pub is_of_command : Status → Bool
 is_of_command status.Usage = false
 is_of_command _ = true
-
--- an answer of `check`, which writes nothing
-abbrev pub is_of_check : Status → Bool
-is_of_check status.Usage = false
-is_of_check status.WriteFault = false
-is_of_check _ = true
 
 -- an answer for which the source was read to its end
 abbrev pub is_of_whole_input : Status → Bool

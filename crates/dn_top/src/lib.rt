@@ -9,9 +9,9 @@
 //! | `status.rt` | how a command ended: the exit status and the line on standard error |
 //! | `input.rt` | reading the input and the case at its front |
 //! | `top.rt` | the top calls, and the one way through all commands |
-//! | `written.rt` | `run` and `lockstep`: writing a case and the trace of its lockstep run |
+//! | `written.rt` | `run` and `lockstep`; writing a case and the trace of its run, for all commands that do |
 //! | `checking.rt` | `check` |
-//! | `driven.rt` | the fabric of a case, and writing what it shows |
+//! | `shown.rt` | the fabric of a case, and writing the trace that it shows, whoever drove it |
 //! | `rerun.rt` | `rerun` |
 //! | `shake.rt` | `shake` |
 //!
@@ -42,10 +42,10 @@
 #![tactic(auto)]
 
 mod checking;
-mod driven;
 mod input;
 mod rerun;
 mod shake;
+mod shown;
 mod status;
 mod top;
 mod words;

@@ -5,14 +5,15 @@ ghost use Rattle.dn_io.specs.Streams.{Rose};
 ghost use Rattle.dn_model.specs.Cases.{IsRecording};
 ghost use Rattle.dn_text.specs.Lines.{lines};
 ghost use Rattle.dn_journal.specs.Reading.{IsJournal};
-ghost use Rattle.dn_drive.specs.Driving.{IsOpening};
+ghost use Rattle.dn_fabric.specs.Driven.{IsOpening};
 ghost use Rattle.dn_drive.specs.Endings.{StandsAt};
 ghost use Rattle.dn_top.specs.Promises.{AnswersRerun, HasCase, network_of, outcome_of, written, journal_place, journal_lines, input_limit, is_of_case};
-ghost use Rattle.dn_top.specs.Drives.{IsFabricOf, ShowsRun, Shows, Drives, IsJournalRefusal, HasOneJournal};
+ghost use Rattle.dn_top.specs.Drives.{IsFabricOf, Drives, IsJournalRefusal, HasOneJournal};
 
 use crate::checking::behind;
-use crate::driven::{fabric_of, push_ends, write_driven};
+use crate::shown::fabric_of;
 use crate::status::Status;
+use crate::written::{Shown, write_run};
 use dn_case::{CaseError, CaseFault, split_trace};
 use dn_drive::{Ended, replay};
 use dn_fabric::Fabric;
@@ -21,7 +22,6 @@ use dn_io::Sink;
 use dn_journal::{Step, read_journal};
 use dn_model::{Case, External, Header};
 use dn_text::first_line;
-use dn_trace::Ending;
 use guest_any::AnyGuest;
 use std::alloc::Global;
 
@@ -164,31 +164,11 @@ fn write_rerun<K: Sink>(
     ensures later { K.faults sink.old ≤ K.faults sink.new }
 {
     match ended {
-        Ended::Whole => write_shown(alloc, case, fabric, Ending::Whole, sink),
-        Ended::Cut => write_shown(alloc, case, fabric, Ending::Cut, sink),
+        Ended::Whole | Ended::Cut => {
+            let nothing = Bytes::new(alloc);
+            write_run(alloc, case, Shown::Driven(fabric), &nothing, sink)
+        }
         Ended::Illegal(number) => Status::Illegal(number),
         Ended::Open => Status::Open,
-    }
-}
-
-/// Writes the recording and the trace.
-fn write_shown<K: Sink>(
-    alloc: Global,
-    case: &Case,
-    fabric: &Fabric<AnyGuest>,
-    ending: Ending,
-    sink: &mut K,
-) -> Status
-    requires of { IsFabricOf case.now fabric.now }
-    requires shows { ShowsRun case.now ending fabric.now }
-    ensures answers { Shows ending (written case.now) result (K.holds sink.old) (K.holds sink.new) }
-    ensures fault { result ≡ Status.WriteFault → Rose (K.faults sink.old) (K.faults sink.new) }
-    ensures later { K.faults sink.old ≤ K.faults sink.new }
-{
-    let routers = case.header.routers.as_slice();
-    let mut ends = Bytes::new(alloc);
-    match push_ends(alloc, case, routers, fabric, ending, &mut ends) {
-        Ok(()) => write_driven(alloc, case, fabric.rows_from(0), ending, &ends, sink),
-        Err(_) => Status::NoMemory,
     }
 }

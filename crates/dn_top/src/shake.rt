@@ -5,23 +5,22 @@ ghost use Rattle.dn_io.specs.Streams.{Rose};
 ghost use Rattle.dn_model.specs.Cases.{IsRecording};
 ghost use Rattle.guest_any.specs.Any.{any};
 ghost use Rattle.dn_fabric.specs.Fabrics.{IsNetworkOf};
-ghost use Rattle.dn_drive.specs.Driving.{IsOpening};
+ghost use Rattle.dn_fabric.specs.Driven.{IsOpening};
 ghost use Rattle.dn_drive.specs.Endings.{IsLegalEnd, StandsAt};
-ghost use Rattle.dn_trace.specs.Trace.{end_text};
 ghost use Rattle.dn_journal.specs.Spelling.{journal_text};
 ghost use Rattle.dn_top.specs.Promises.{network_of, outcome_of, steps_of, shaken};
-ghost use Rattle.dn_top.specs.Drives.{IsFabricOf, ShowsRun, Shows, Drives, is_illegal};
+ghost use Rattle.dn_top.specs.Drives.{IsFabricOf, ShowsCase, Writes, Drives, is_illegal};
 
-use crate::driven::{fabric_of, push_ends, write_driven};
+use crate::shown::fabric_of;
 use crate::status::Status;
 use crate::words::Schedule;
+use crate::written::{Shown, write_run};
 use dn_drive::{Ended, shake};
 use dn_fabric::Fabric;
 use dn_guest::{Bytes, NoMemory};
 use dn_io::Sink;
 use dn_journal::write_journal;
 use dn_model::{Case, External, Header};
-use dn_trace::Ending;
 use guest_any::AnyGuest;
 use std::alloc::Global;
 
@@ -86,8 +85,7 @@ fn write_shake<K: Sink>(
     ensures later { K.faults sink.old ≤ K.faults sink.new }
 {
     match ended {
-        Ended::Whole => write_shaken(alloc, case, fabric, Ending::Whole, sink),
-        Ended::Cut => write_shaken(alloc, case, fabric, Ending::Cut, sink),
+        Ended::Whole | Ended::Cut => write_shaken(alloc, case, &case.header, fabric, sink),
         Ended::Illegal(_) => unreachable!(),
         Ended::Open => Status::Open,
     }
@@ -97,40 +95,22 @@ fn write_shake<K: Sink>(
 fn write_shaken<K: Sink>(
     alloc: Global,
     case: &Case,
+    header: &Header,
     fabric: &Fabric<AnyGuest>,
-    ending: Ending,
     sink: &mut K,
 ) -> Status
     requires of { IsFabricOf case.now fabric.now }
-    requires shows { ShowsRun case.now ending fabric.now }
-    ensures answers { Shows ending (shaken case.now fabric.now.journal) result (K.holds sink.old) (K.holds sink.new) }
+    requires same { case.now.header ≡ header.now }
+    requires shows { ShowsCase case.now fabric.now }
+    ensures answers { Writes case.now (shaken case.now fabric.now.journal) result (K.holds sink.old) (K.holds sink.new) }
     ensures fault { result ≡ Status.WriteFault → Rose (K.faults sink.old) (K.faults sink.new) }
     ensures later { K.faults sink.old ≤ K.faults sink.new }
 {
-    let mut ends = Bytes::new(alloc);
-    match push_ends_and_journal(alloc, case, &case.header, fabric, ending, &mut ends) {
-        Ok(()) => write_driven(alloc, case, fabric.rows_from(0), ending, &ends, sink),
+    let mut journal = Bytes::new(alloc);
+    match push_journal(header, fabric, &mut journal) {
+        Ok(()) => write_run(alloc, case, Shown::Driven(fabric), &journal, sink),
         Err(_) => Status::NoMemory,
     }
-}
-
-/// Appends how the trace ends behind its rows, and the journal.
-fn push_ends_and_journal(
-    alloc: Global,
-    case: &Case,
-    header: &Header,
-    fabric: &Fabric<AnyGuest>,
-    ending: Ending,
-    out: &mut Bytes,
-) -> Result<(), NoMemory>
-    requires of { IsFabricOf case.now fabric.now }
-    requires same { case.now.header ≡ header.now }
-    requires shows { ShowsRun case.now ending fabric.now }
-    ensures { OnOk result (out.new ≡ out.old ++ (end_text (network_of case.now.header) case.now.feed ++ journal_text case.now.header fabric.now.journal)) }
-{
-    let routers = header.routers.as_slice();
-    push_ends(alloc, case, routers, fabric, ending, out)?;
-    push_journal(header, fabric, out)
 }
 
 /// Appends the journal.

@@ -1,12 +1,14 @@
 -- What a sink holds of a text that is gathered and handed over in parts.
 use Rattle.std.proofs.Common.{◌≡◌, ℕ, List, ◌++◌, take, drop, Option, refl, sym, ap, ◌∙◌, subst, append_assoc, arith}
+use Rattle.std.specs.Prelude.{codes}
 use Rattle.std.proofs.lemmas.List.{take-append-drop, length-append, length-drop}
 use Rattle.std.proofs.lemmas.Grind.{flat_map-append}
 use Rattle.dn_io.specs.Streams.{behind, PutsFront, PutsOrKeeps}
-use Rattle.dn_io.proofs.StreamLaws.{behind-behind, PutsFront-longer, PutsOrKeeps-flush, PutsOrKeeps-front}
+use Rattle.dn_io.proofs.StreamLaws.{behind-behind, PutsFront-longer, PutsFront-after, PutsOrKeeps-flush, PutsOrKeeps-front}
 use Rattle.dn_model.specs.declared.router.RouterDef.{RouterDef}
 use Rattle.dn_model.specs.declared.event.Event.{Event}
 use Rattle.dn_trace.specs.Rows.{row_line, row_lines}
+use Rattle.dn_trace.specs.Trace.{shown_text}
 
 -- a front that was put, and the rest
 split_at : (told : Option (List ℕ)) (text : List ℕ) (n : ℕ) → PutsOrKeeps told (behind told (take n text)) (drop n text) text
@@ -51,3 +53,22 @@ pub front_so_far : (old then now : Option (List ℕ)) (kept left before : List �
 front_so_far old then now kept left before routers rows i first second =
     let front : PutsFront then now kept = PutsOrKeeps-front second in
     front_of_rows old then now kept before routers rows i first front
+
+-- ---- rows that are there, and then what ends them
+
+split_text : (routers : List RouterDef) (rows : List Event) (ends : List ℕ) → (codes "trace\n" ++ row_lines routers rows) ++ ends ≡ shown_text routers rows ends
+split_text routers rows ends = append_assoc (codes "trace\n") (row_lines routers rows) ends
+
+pub rows_begun : (routers : List RouterDef) (rows : List Event) (ends : List ℕ) (old now : Option (List ℕ)) → PutsFront old now (codes "trace\n" ++ row_lines routers rows) → PutsFront old now (shown_text routers rows ends)
+rows_begun routers rows ends old now front = subst (PutsFront old now) (split_text routers rows ends) (PutsFront-longer ends front)
+
+pub ends_begun : (routers : List RouterDef) (rows : List Event) (ends : List ℕ) (old then now : Option (List ℕ)) → then ≡ behind old (codes "trace\n" ++ row_lines routers rows) → PutsFront then now ends → PutsFront old now (shown_text routers rows ends)
+ends_begun routers rows ends old then now first front =
+    subst (PutsFront old now) (split_text routers rows ends) (PutsFront-after (codes "trace\n" ++ row_lines routers rows) first front)
+
+pub rows_and_ends : (routers : List RouterDef) (rows : List Event) (ends : List ℕ) (old then now : Option (List ℕ)) → then ≡ behind old (codes "trace\n" ++ row_lines routers rows) → now ≡ behind then ends → now ≡ behind old (shown_text routers rows ends)
+rows_and_ends routers rows ends old then now first second =
+    second
+    ∙ ap (λ (told : Option (List ℕ)). behind told ends) first
+    ∙ behind-behind old (codes "trace\n" ++ row_lines routers rows) ends
+    ∙ ap (behind old) (split_text routers rows ends)

@@ -4,6 +4,7 @@ use Rattle.std.specs.Fmt.{decimal}
 use Rattle.dn_guest.specs.declared.node.Node.{Node}
 use Rattle.dn_guest.specs.Meaning.{Meaning}
 use Rattle.dn_model.specs.declared.router.RouterDef.{RouterDef}
+use Rattle.dn_model.specs.declared.event.Event.{Event}
 use Rattle.dn_model.specs.declared.feed.External.{External}
 use Rattle.dn_model.specs.Network.{Network, routers, state}
 use Rattle.dn_model.specs.Settled.{lockstep, rows, shown_rows, row_limit, is_cut}
@@ -22,6 +23,10 @@ end_line n = last_field (codes "end trace " ++ decimal n)
 unfoldable pub cut_line : List ℕ
 cut_line = last_field (codes "cut " ++ decimal row_limit)
 
+-- the line `trace`, rows, and what ends them
+abbrev pub shown_text : List RouterDef → List Event → List ℕ → List ℕ
+shown_text routers rows ends = codes "trace\n" ++ (row_lines routers rows ++ ends)
+
 module _ {S : Type 0} (net : Network S) (feed : List External) where
   -- the states after the last row, and the number of rows
   unfoldable pub last_lines : List ℕ
@@ -33,6 +38,6 @@ module _ {S : Type 0} (net : Network S) (feed : List External) where
   unfoldable pub end_text : List ℕ
   end_text = if is_cut net feed then cut_line else last_lines
 
-  -- the line `trace`, the rows as far as a trace shows them, and the end
+  -- the rows as far as a trace shows them, and the end
   unfoldable pub trace_text : List ℕ
-  trace_text = codes "trace\n" ++ (row_lines net.header.routers (shown_rows net feed) ++ end_text)
+  trace_text = shown_text net.header.routers (shown_rows net feed) end_text

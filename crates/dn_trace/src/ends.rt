@@ -1,6 +1,7 @@
-//! How a trace ends: the states and the number of rows, or the line that says that it is cut.
+//! How a trace begins and ends: the line `trace`; the states and the number of rows, or the line that says that
+//! it is cut.
 
-ghost use Rattle.std.specs.Prelude.{◌≡◌, ◌<◌, ◌≤◌, ◌++◌, List, length, OnOk};
+ghost use Rattle.std.specs.Prelude.{◌≡◌, ◌<◌, ◌≤◌, ◌++◌, List, codes, length, OnOk};
 ghost use Rattle.dn_guest.specs.KeepsFront.{KeepsFront};
 ghost use Rattle.dn_model.specs.declared.feed.External.{External};
 ghost use Rattle.dn_model.specs.Network.{Network};
@@ -14,6 +15,13 @@ use dn_lockstep::Engine;
 use dn_model::RouterDef;
 use dn_text::push_decimal;
 use std::alloc::Global;
+
+/// Appends the line `trace`.
+pub(crate) fn push_first_line(out: &mut Bytes) -> Result<(), NoMemory>
+    ensures { OnOk result (out.new ≡ out.old ++ codes "trace\n") }
+{
+    out.append(b"trace\n")
+}
 
 /// Appends the line of the row handled last, where there is one.
 pub(crate) fn push_last<G: Guest>(

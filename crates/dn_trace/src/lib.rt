@@ -7,11 +7,12 @@
 //! | File | What it has |
 //! |---|---|
 //! | `rows.rt` | the line of a row and the line of a state |
-//! | `ends.rt` | how a trace ends |
+//! | `ends.rt` | how a trace begins and ends |
 //! | `stream.rt` | the text of a trace, piece by piece |
 //! | `lockstep.rt` | `write_trace`: writing the trace of a lockstep run |
 //! | `compare.rt` | `check`: comparing a text with that trace |
-//! | `write.rt`, `writer.rt` | writing single rows and states, rows that are there, and rows that come in pieces |
+//! | `write.rt` | writing single rows and states, and the trace of rows that are there |
+//! | `writer.rt` | writing rows that come in pieces |
 //!
 //! The one contract upwards: `write_trace` at Ok has written `trace_text` of `specs/Trace.antt`, which is
 //! made of the model's lockstep rows and states and knows no engine; at an error it has written a front
@@ -31,5 +32,5 @@ pub use ends::{push_cut_line, push_end_line};
 pub use lockstep::write_trace;
 pub use rows::{push_row, push_state};
 pub use stream::Ending;
-pub use write::{WriteError, write_row, write_rows, write_state};
+pub use write::{WriteError, put_text, write_row, write_shown, write_state};
 pub use writer::TraceWriter;

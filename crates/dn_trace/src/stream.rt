@@ -7,7 +7,7 @@ ghost use Rattle.dn_model.specs.Network.{Network};
 ghost use Rattle.dn_lockstep.specs.Running.{StandsIn};
 ghost use Rattle.dn_trace.specs.Streaming.{to_come, rows_to_come, steps_left, ended_of, EndsRightly, IsRunOf};
 
-use crate::ends::{push_cut_line, push_last, push_last_lines};
+use crate::ends::{push_cut_line, push_first_line, push_last, push_last_lines};
 use dn_guest::{Bytes, Guest, NoMemory};
 use dn_lockstep::{Engine, Next};
 use dn_model::{Case, RouterDef};
@@ -80,7 +80,7 @@ impl<G: Guest> TraceText<G> {
     {
         match self.stage {
             Stage::Opening => {
-                out.append(b"trace\n")?;
+                push_first_line(out)?;
                 self.stage = Stage::Rows;
                 Ok(())
             }

@@ -1,9 +1,11 @@
-//! Writing rows and states to a sink.
+//! Writing rows and states to a sink, and the trace of rows that are there.
 
 ghost use Rattle.std.specs.Prelude.{◌≡◌, ◌≤◌, ◌++◌, codes, OnOk, IsErrOf};
 ghost use Rattle.dn_io.specs.Streams.{Rose, behind, PutsFront};
 ghost use Rattle.dn_trace.specs.Rows.{row_line, row_lines, state_line};
+ghost use Rattle.dn_trace.specs.Trace.{shown_text};
 
+use crate::ends::push_first_line;
 use crate::rows::{push_row, push_state};
 use crate::writer::put_rows;
 use dn_guest::{Bytes, Guest, Node};
@@ -24,7 +26,7 @@ pub enum WriteError {
 }
 
 /// Writes a text; at an error a front of it was written.
-pub(crate) fn put_text<K: Sink>(sink: &mut K, text: &Bytes) -> Result<(), WriteError>
+pub fn put_text<K: Sink>(sink: &mut K, text: &Bytes) -> Result<(), WriteError>
     ensures all { OnOk result (K.holds sink.new ≡ behind (K.holds sink.old) text.now) }
     ensures front { PutsFront (K.holds sink.old) (K.holds sink.new) text.now }
     ensures fault { IsErrOf result WriteError.Fault → Rose (K.faults sink.old) (K.faults sink.new) }
@@ -55,8 +57,26 @@ pub fn write_row<K: Sink>(
     put_text(sink, &text)
 }
 
+/// Writes the line `trace`, the lines of the rows, and then what ends them. At an error a front of that was
+/// written.
+pub fn write_shown<K: Sink>(
+    alloc: Global,
+    header: &Header,
+    rows: &[Row],
+    ends: &Bytes,
+    sink: &mut K,
+) -> Result<(), WriteError>
+    ensures all { OnOk result (K.holds sink.new ≡ behind (K.holds sink.old) (shown_text header.now.routers rows.now ends.now)) }
+    ensures front { PutsFront (K.holds sink.old) (K.holds sink.new) (shown_text header.now.routers rows.now ends.now) }
+    ensures fault { IsErrOf result WriteError.Fault → Rose (K.faults sink.old) (K.faults sink.new) }
+    ensures later { K.faults sink.old ≤ K.faults sink.new }
+{
+    write_rows(alloc, header, rows, sink)?;
+    put_text(sink, ends)
+}
+
 /// Writes the line `trace` and the lines of the rows. At an error a front of that was written.
-pub fn write_rows<K: Sink>(
+fn write_rows<K: Sink>(
     alloc: Global,
     header: &Header,
     rows: &[Row],
@@ -68,7 +88,7 @@ pub fn write_rows<K: Sink>(
     ensures later { K.faults sink.old ≤ K.faults sink.new }
 {
     let mut text = Bytes::new(alloc);
-    if text.append(b"trace\n").is_err() {
+    if push_first_line(&mut text).is_err() {
         return Err(WriteError::NoMemory);
     }
     put_rows(&mut text, header.routers.as_slice(), rows, sink)

@@ -5,6 +5,7 @@ ghost use Rattle.dn_io.specs.Streams.{Rose, behind, PutsFront, PutsOrKeeps};
 ghost use Rattle.dn_trace.specs.Rows.{row_lines};
 ghost use Rattle.dn_trace.specs.Writing.{opening_line, more_rows, counted};
 
+use crate::ends::push_first_line;
 use crate::rows::push_row;
 use crate::write::{WriteError, put_text};
 use dn_guest::{Bytes, NoMemory};
@@ -81,7 +82,7 @@ fn push_opening(text: &mut Bytes, before: u64, rows: &[Row]) -> Result<(), NoMem
     ensures { OnOk result (text.new ≡ text.old ++ opening_line before rows.now) }
 {
     if before == 0 && !rows.is_empty() {
-        text.append(b"trace\n")?;
+        push_first_line(text)?;
     }
     Ok(())
 }

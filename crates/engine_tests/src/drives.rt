@@ -1,7 +1,7 @@
 //! The laws of drives, and steps that no journal can name.
 
 ghost use Rattle.std.specs.Prelude.{◌≡◌, length, IfOk};
-ghost use Rattle.dn_drive.specs.Driving.{IsOpening};
+ghost use Rattle.dn_fabric.specs.Driven.{IsOpening};
 
 use dn_case::read_case;
 use dn_drive::{Ended, laws, replay};

@@ -1,7 +1,7 @@
 //! A run: its case, its fabric, and the outcomes that were set aside.
 
 ghost use Rattle.std.specs.Prelude.{◌≡◌, length, IfOk};
-ghost use Rattle.dn_drive.specs.Driving.{IsOpening};
+ghost use Rattle.dn_fabric.specs.Driven.{IsOpening};
 
 use crate::acts::{finish, lease, take, work};
 use crate::shown::{

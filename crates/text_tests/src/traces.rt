@@ -3,11 +3,11 @@
 ghost use Rattle.std.specs.Prelude.{◌≡◌, length, IfOk};
 
 use crate::cases::case_of;
-use dn_guest::{Flood, Input, NoMemory, Node};
+use dn_guest::{Bytes, Flood, Input, NoMemory, Node};
 use dn_io::MemSink;
 use dn_model::{Event, Key};
 use dn_trace::{
-    Checked, Ending, TraceWriter, check, write_row, write_rows, write_state, write_trace,
+    Checked, Ending, TraceWriter, check, write_row, write_shown, write_state, write_trace,
 };
 use std::alloc::Global;
 
@@ -66,7 +66,8 @@ fn rows_are_written_behind_the_line_trace(rt: HostRuntime) -> Result<(), NoMemor
 fn rows_are_written_at_once(rt: HostRuntime) -> Result<(), NoMemory> {
     let case = case_of(rt.alloc(), SMALLEST)?;
     let mut sink = empty_sink(rt.alloc())?;
-    assert!(rt; write_rows(rt.alloc(), &case.header, &[row()], &mut sink).is_ok());
+    let ends = Bytes::new(rt.alloc());
+    assert!(rt; write_shown(rt.alloc(), &case.header, &[row()], &ends, &mut sink).is_ok());
     assert!(rt; sink.as_slice() == ROWS);
     Ok(())
 }

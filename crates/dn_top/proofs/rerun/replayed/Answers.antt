@@ -6,7 +6,7 @@ use Rattle.dn_world.specs.World.{opening}
 use Rattle.dn_drive.specs.Allowed.{rerun}
 use Rattle.dn_drive.specs.Endings.{StandsAt}
 use Rattle.dn_top.specs.Promises.{network_of}
-use Rattle.dn_top.proofs.Shown.{recording_of}
+use Rattle.dn_top.proofs.Showing.{recording_of}
 use Rattle.dn_top.proofs.rerun.replayed.Goals as goal
 
 pub replay-requires-clause-case : goal.replay-requires-clause-case

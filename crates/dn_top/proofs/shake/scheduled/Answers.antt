@@ -7,7 +7,7 @@ use Rattle.dn_drive.specs.Allowed.{rerun}
 use Rattle.dn_drive.specs.Choices.{schedule}
 use Rattle.dn_drive.specs.Endings.{StandsAt}
 use Rattle.dn_top.specs.Promises.{network_of}
-use Rattle.dn_top.proofs.Shown.{recording_of}
+use Rattle.dn_top.proofs.Showing.{recording_of}
 use Rattle.dn_top.proofs.shake.scheduled.Goals as goal
 
 pub shake-requires-clause-case : goal.shake-requires-clause-case

@@ -1,6 +1,6 @@
 use Rattle.dn_top.specs.Promises.{network_of}
-use Rattle.dn_top.proofs.Shown.{state_after, no_state}
-use Rattle.dn_top.proofs.driven.push_states.Goals as goal
+use Rattle.dn_top.proofs.Showing.{state_after, no_state}
+use Rattle.dn_top.proofs.shown.push_states.Goals as goal
 
 pub loop-router-init : goal.loop-router-init
 loop-router-init c = no_state c.args.case.now c.args.fabric.now c.args.routers.now c.args.out.now
