@@ -1,4 +1,4 @@
-"""docs/TOOLS.md: what it shows of sweep, import and capture is what they write; its case and its pictures."""
+"""docs/TOOLS.md: what it shows of sweep, import and capture is what they write; its case, pictures and capture file."""
 
 import os
 import re
@@ -22,6 +22,12 @@ class Page(unittest.TestCase):
         words = ("--svg", "653-681", "--title", "the link of a and d goes down")
         done = tool("chart", os.path.join(TOP, "examples", "six_routers.out"), *words)
         with open(os.path.join(TOP, "docs", "pictures", "six_routers_down.svg"), "rb") as file:
+            self.assertEqual(done.stdout, file.read())
+
+    def test_a_capture(self):
+        """The capture file is what pcap writes of the six routers."""
+        done = tool("pcap", os.path.join(TOP, "examples", "six_routers.out"))
+        with open(os.path.join(TOP, "docs", "pictures", "six_routers.pcapng"), "rb") as file:
             self.assertEqual(done.stdout, file.read())
 
     def test_toml(self):
