@@ -9,7 +9,7 @@ use Rattle.dn_top.specs.declared.status.Status.{Status}
 use Rattle.dn_top.specs.declared.status.Status.TheVariants as status
 use Rattle.dn_top.specs.declared.words.Schedule.{Schedule}
 use Rattle.dn_top.specs.Promises.{HasCase, HasJournal, IsCaseRefusal, AnswersRerun, AnswersShake, outcome_of, steps_of, written, shaken, journal_lines, input_limit, is_of_reading, is_of_case}
-use Rattle.dn_top.specs.Drives.{Drives, IsJournalRefusal, AreOneJournal, HasOneJournal, is_of_steps, is_illegal}
+use Rattle.dn_top.specs.Drives.{Drives, AreOneJournal, HasOneJournal, is_of_steps, is_illegal}
 use Rattle.dn_top.proofs.Completing.{same_case}
 use Rattle.dn_top.proofs.Ends.{ends_whole, cut_on_the_way, schedule_ends_cut}
 
@@ -70,34 +70,6 @@ case_refused_shake w input status.WriteFault told refused = absurd refused
 case_refused_shake w input status.NoMemory told refused = inl refl
 case_refused_shake w input (status.Differs p) told refused = absurd refused
 case_refused_shake w input status.Usage told refused = absurd refused
-
--- ---- refusals of the journal
-
-pub journal_refused : (input : List ℕ) (c : Recording) (size : ℕ) (s : Status) (told : Option (List ℕ)) → HasCase input c size → IsJournalRefusal c.header input size s → AnswersRerun s input told told
-journal_refused input c size status.Ok told has refused = absurd refused
-journal_refused input c size status.Cut told has refused = absurd refused
-journal_refused input c size (status.Illegal i) told has refused = absurd refused
-journal_refused input c size status.Open told has refused = absurd refused
-journal_refused input c size (status.BadCase f) told has refused = (inr (record { case = c; size = size; has = has; bad = refused }), refl)
-journal_refused input c size status.TooBig told has refused = absurd refused
-journal_refused input c size status.ReadFault told has refused = absurd refused
-journal_refused input c size status.WriteFault told has refused = absurd refused
-journal_refused input c size status.NoMemory told has refused = inl refl
-journal_refused input c size (status.Differs p) told has refused = absurd refused
-journal_refused input c size status.Usage told has refused = absurd refused
-
-pub journal_refusal_of_case : (h : Heading) (input : List ℕ) (size : ℕ) (s : Status) → IsJournalRefusal h input size s → is_of_case s ≡ true
-journal_refusal_of_case h input size status.Ok refused = absurd refused
-journal_refusal_of_case h input size status.Cut refused = absurd refused
-journal_refusal_of_case h input size (status.Illegal i) refused = absurd refused
-journal_refusal_of_case h input size status.Open refused = absurd refused
-journal_refusal_of_case h input size (status.BadCase f) refused = refl
-journal_refusal_of_case h input size status.TooBig refused = absurd refused
-journal_refusal_of_case h input size status.ReadFault refused = absurd refused
-journal_refusal_of_case h input size status.WriteFault refused = absurd refused
-journal_refusal_of_case h input size status.NoMemory refused = refl
-journal_refusal_of_case h input size (status.Differs p) refused = absurd refused
-journal_refusal_of_case h input size status.Usage refused = absurd refused
 
 -- ---- what steps come to
 

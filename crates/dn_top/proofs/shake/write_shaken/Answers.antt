@@ -1,6 +1,4 @@
-use Rattle.std.proofs.Common.{List, ℕ, ◌++◌, ap, ◌∙◌, sym}
-use Rattle.dn_io.proofs.StreamLaws.{PutsFront-none}
-use Rattle.dn_journal.specs.Spelling.{journal_text}
+use Rattle.std.proofs.Common.{◌++◌}
 use Rattle.dn_top.specs.Promises.{written, shaken}
 use Rattle.dn_top.proofs.Showing.{writes_same, shaken_is}
 use Rattle.dn_top.proofs.shake.write_shaken.Goals as goal

@@ -1,7 +1,7 @@
-use Rattle.std.proofs.Common.{◌≡◌, List, ℕ, ◌++◌, ap, sym, ◌∙◌, subst}
+use Rattle.std.proofs.Common.{List, ℕ, ◌++◌, ap, sym, ◌∙◌, subst}
 use Rattle.dn_io.specs.Streams.{behind, PutsFront}
 use Rattle.dn_io.proofs.StreamLaws.{PutsFront-none}
-use Rattle.dn_trace.specs.Trace.{end_text, shown_text}
+use Rattle.dn_trace.specs.Trace.{end_text}
 use Rattle.dn_top.specs.Promises.{network_of, trace_of}
 use Rattle.dn_top.proofs.Showing.{trace_shown}
 use Rattle.dn_top.proofs.shown.write_driven_trace.Goals as goal

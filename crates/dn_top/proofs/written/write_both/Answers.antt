@@ -1,6 +1,4 @@
-use Rattle.std.proofs.Common.{rules, ◌∙◌, subst}
-use Rattle.dn_top.specs.Drives.{IsShown}
-use Rattle.dn_top.specs.declared.written.Shown.{Shown}
+use Rattle.std.proofs.Common.{rules}
 use Rattle.dn_top.proofs.Networks.{both_written, recording_begun, trace_begun}
 use Rattle.dn_top.proofs.written.write_both.Goals as goal
 
