@@ -1,10 +1,12 @@
 -- What holds of every state that a router reaches. The law is `sound_states` of src/laws.rt.
-use Rattle.std.specs.Prelude.{◌≡◌, ◌≤◌, ◌<◌, ◌^◌, ℕ, ⊤, true, List, length, fold, All}
+use Rattle.std.specs.Prelude.{◌≡◌, ◌≤◌, ◌<◌, ◌^◌, ℕ, ⊤, true, List, length, fold, All, is_some}
 use Rattle.std.specs.List.{AllByRecursion}
 use Rattle.dn_guest.specs.declared.input.Input.{Input}
 use Rattle.dn_guest.specs.declared.input.Input.TheVariants.{Tick, Cmd, Down, Up, Msg}
+use Rattle.dn_guest.specs.declared.outbox.Output.{Output}
 use Rattle.dn_net.specs.Networks.{is_network}
 use Rattle.rip_wire.specs.Constants.{infinity, last_tick_taken, most_own_networks}
+use Rattle.rip_wire.specs.Reading.{message_at}
 use Rattle.rip_table.specs.Sound.{IsSoundTable}
 use Rattle.rip_guest.specs.State.{Prefix, RipState}
 use Rattle.rip_guest.specs.Step.{rip_after}
@@ -17,6 +19,7 @@ pub record IsSetting (p : Prefix) : Type 0 where
   pub network : is_network p.0 p.1 ≡ true
   pub metric : 1 ≤ p.2
 
+-- a number of 16 bits, at most 16 ports, each with a cost, and at most 32 own networks
 pub record AreSettings (n : ℕ) (costs : List ℕ) (prefixes : List Prefix) : Type 0 where
   pub number : n < 2 ^ 16
   pub few_ports : length costs ≤ 16
@@ -44,3 +47,10 @@ pub record IsSoundState (s : RipState) : Type 0 where
   pub ports : length s.costs ≤ 16
   pub costs : AllByRecursion (λ cost. (1 ≤ cost) × (cost ≤ infinity)) s.costs
   pub routes : IsSoundTable (length s.costs) s.last_tick s.routes
+
+-- ---- what it sends: on one of so many ports, bytes that are a message
+
+pub record IsSent (ports : ℕ) (o : Output) : Type 0 where
+  pub port : o.port < ports
+  pub bytes : All (λ b. b < 2 ^ 8) o.body
+  pub message : is_some (message_at o.body) ≡ true

@@ -1,17 +1,17 @@
 //! What holds of every state that a router reaches, and what its image is.
 
-ghost use Rattle.std.specs.Prelude.{◌≡◌, ℕ, List, false};
+ghost use Rattle.std.specs.Prelude.{◌≡◌, ℕ, List, false, length};
 ghost use Rattle.std.specs.List.{AllByRecursion};
 ghost use Rattle.dn_guest.specs.declared.input.Input.{Input};
 ghost use Rattle.rip_table.specs.Routes.{any_changed};
 ghost use Rattle.rip_guest.specs.Image.{rip_image};
 ghost use Rattle.rip_guest.specs.PlainImage.{plain_image};
-ghost use Rattle.rip_guest.specs.Sound.{AreSettings, HasBytes, IsSoundState, rip_run};
+ghost use Rattle.rip_guest.specs.Sound.{AreSettings, HasBytes, IsSent, IsSoundState, rip_run};
 ghost use Rattle.rip_guest.specs.State.{Prefix, RipState, opening};
-ghost use Rattle.rip_guest.specs.Step.{handled, is_passed_over, rip_after};
+ghost use Rattle.rip_guest.specs.Step.{handled, is_passed_over, rip_after, rip_outs};
 
 use rip_table::{one_own_network_more, sound_tables};
-use rip_wire::read_messages_fit;
+use rip_wire::{read_messages_fit, written_messages_are_read};
 
 /// Every state that a router reaches is sound: the one at the start, and the one after each step from a sound state,
 /// whatever the mask of its up ports and its input are. So is the state in the middle of a step, before the triggered
@@ -30,6 +30,17 @@ pub fn sound_states()
     sound_tables();
     one_own_network_more();
     read_messages_fit();
+}
+
+/// What a router sends in a step from a sound state is messages, in bytes, on ports that it has.
+pub fn sound_states_send_messages()
+    ensures { (s : RipState) (ports : ℕ) (input : Input) → HasBytes input → IsSoundState s
+        → AllByRecursion (IsSent (length s.costs)) (rip_outs s ports input) }
+{
+    sound_states();
+    sound_tables();
+    read_messages_fit();
+    written_messages_are_read();
 }
 
 /// Between two steps no route is marked as changed, whatever a router began with and is given.

@@ -27,7 +27,9 @@ mod show;
 mod updates;
 
 pub use dn_net::{Costs, PrefixList};
-pub use laws::{no_mark_is_left, sound_states, sound_states_are_told_plainly};
+pub use laws::{
+    no_mark_is_left, sound_states, sound_states_are_told_plainly, sound_states_send_messages,
+};
 pub use rip::Rip;
 pub use settings::RipSettings;
 pub use std::alloc::AllocError as NoMemory;

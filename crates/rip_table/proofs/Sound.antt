@@ -449,3 +449,8 @@ sound_tick ports before now es le sound =
 pub sound_empty : (ports : ℕ) → IsSoundTable ports 0 []
 unfolding IsStrictlySortedBy
 sound_empty ports = record { rising = tt; each = tt; few = omega arith; own = omega arith }
+
+-- ---- a look-up
+
+pub sound_held : (ports now : ℕ) (es : Routes) (n : Network) → IsSoundTable ports now es → IfSome (held_at es n) (λ h. IsSoundRoute ports now (n, h))
+sound_held ports now es n sound = held_is (IsSoundRoute ports now) n es sound.each

@@ -1,6 +1,6 @@
 //! Laws of the definitions, each the contract of a function with an empty body.
 
-ghost use Rattle.std.specs.Prelude.{◌≡◌, ◌≢◌, ◌≤◌, ◌<◌, ◌+◌, ◌^◌, ℕ, [], Option, Some, None, true};
+ghost use Rattle.std.specs.Prelude.{◌≡◌, ◌≢◌, ◌≤◌, ◌<◌, ◌+◌, ◌^◌, ℕ, [], Option, Some, None, IfSome, true};
 ghost use Rattle.std.specs.List.Sorted.{IsStrictlySortedBy};
 ghost use Rattle.std.specs.Map.{keys_of};
 ghost use Rattle.dn_net.specs.Networks.{Network, is_network, network_cmp};
@@ -12,7 +12,7 @@ ghost use Rattle.rip_table.specs.Held.{settled};
 ghost use Rattle.rip_table.specs.Own.{own_at, own_count, with_own, without_own};
 ghost use Rattle.rip_table.specs.Response.{entry_taken};
 ghost use Rattle.rip_table.specs.Routes.{Routes, all_changed, held_at, put};
-ghost use Rattle.rip_table.specs.Sound.{IsSoundTable};
+ghost use Rattle.rip_table.specs.Sound.{IsSoundRoute, IsSoundTable};
 ghost use Rattle.rip_table.specs.Timers.{port_lost, ticked};
 
 /// A route that is put is held at its network, and every other network's route is as before.
@@ -23,7 +23,8 @@ pub fn a_change_is_at_one_network()
 {}
 
 /// A table without routes is sound, and each call leaves a sound table sound: on ports that the router has, with
-/// entries that fit their bytes and own networks for which there is room, and at ticks that don't go back.
+/// entries that fit their bytes and own networks for which there is room, and at ticks that don't go back. What such a
+/// table holds at a network is a sound route.
 pub fn sound_tables()
     ensures new { (ports : ℕ) → IsSoundTable ports 0 [] }
     ensures response { (port cost : ℕ) (e : Entry) (ports now : ℕ) (routes : Routes) → port < ports → FitsEntry e
@@ -40,6 +41,8 @@ pub fn sound_tables()
         → IsSoundTable ports now (ticked now routes) }
     ensures settle { (ports now : ℕ) (routes : Routes) → IsSoundTable ports now routes
         → IsSoundTable ports now (all_changed settled routes) }
+    ensures held { (ports now : ℕ) (routes : Routes) (n : Network) → IsSoundTable ports now routes
+        → IfSome (held_at routes n) (λ h. IsSoundRoute ports now (n, h)) }
 {}
 
 /// Setting an own network makes at most one more that can be reached, and none more if it was one already.

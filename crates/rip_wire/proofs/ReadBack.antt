@@ -1,16 +1,17 @@
 -- What is read from bytes is written again, but for the two bytes behind the version.
-use Rattle.std.proofs.Common.{◌≡◌, ℕ, ◌+◌, ◌/◌, ◌%◌, ◌^◌, ◌<◌, ◌≤◌, inl, inr, List, [], ◌∷◌, ◌++◌, length, take, drop, sym, ap, ◌∙◌, arith}
+use Rattle.std.proofs.Common.{◌≡◌, ℕ, zero, suc, ◌+◌, ◌/◌, ◌%◌, ◌^◌, ◌<◌, ◌≤◌, ◌⊎◌, inl, inr, List, [], ◌∷◌, ◌++◌, length, take, drop, sym, ap, ◌∙◌, arith}
 use Rattle.std.specs.Prelude.{All, slice_index}
+use Rattle.std.specs.Int.{byte_at}
 use Rattle.std.specs.List.{AllByRecursion}
 use Rattle.std.proofs.lemmas.Bool.{cases_lt}
 use Rattle.std.proofs.lemmas.List.{drop-drop, length-drop, get_or_past}
-use Rattle.std.proofs.lemmas.List.Elements.{All-cons, All-drop, All-get_or, All-nil, recursion_from_All}
+use Rattle.std.proofs.lemmas.List.Elements.{All-append, All-cons, All-drop, All-get_or, All-nil, recursion_from_All}
 use Rattle.byteorder.specs.Endian.{big_bytes, big_number}
 use Rattle.byteorder.specs.Numbers.{big_from-lt}
 use Rattle.rip_wire.specs.declared.entry.Entry.{Entry}
 use Rattle.rip_wire.specs.declared.message.Message.{Message}
 use Rattle.rip_wire.specs.Entries.{AreEntries, FitsEntry, StandsAtFront, entries_bytes, entry_bytes}
-use Rattle.rip_wire.specs.Messages.{IsMessage, message_bytes}
+use Rattle.rip_wire.specs.Messages.{IsEncodable, IsMessage, message_bytes}
 use Rattle.rip_wire.specs.Reading.{entry_at}
 use Rattle.rip_wire.proofs.EntryLaws.{same_entry}
 
@@ -93,14 +94,14 @@ message_again_written (a ∷ b ∷ rest) m all is =
 
 -- ---- what is read fits its width
 
-byte_at : (xs : List ℕ) → AreBytes xs → (k : ℕ) → slice_index xs k < 256
-byte_at xs all k = elim (cases_lt k (length xs)) [
+byte_in : (xs : List ℕ) → AreBytes xs → (k : ℕ) → slice_index xs k < 256
+byte_in xs all k = elim (cases_lt k (length xs)) [
   | inl here ↦ All-get_or (λ (b : ℕ). b < 2 ^ 8) xs k 0 here all
   | inr past ↦ omega (arith, get_or_past xs k 0 past)
 ]
 
 number_fits : (n k : ℕ) (bytes : List ℕ) → AreBytes bytes → big_number n (drop k bytes) < 256 ^ n
-number_fits n k bytes all = big_from-lt 0 n (drop k bytes) (byte_at (drop k bytes) (All-drop (λ (b : ℕ). b < 2 ^ 8) k bytes all))
+number_fits n k bytes all = big_from-lt 0 n (drop k bytes) (byte_in (drop k bytes) (All-drop (λ (b : ℕ). b < 2 ^ 8) k bytes all))
 
 entry_fits : (bytes : List ℕ) (e : Entry) → AreBytes bytes → StandsAtFront bytes e → FitsEntry e
 entry_fits bytes e all stands = record {
@@ -116,3 +117,44 @@ pub entries_fit : (es : List Entry) (bytes : List ℕ) → AreBytes bytes → Ar
 entries_fit [] bytes all are = All-nil FitsEntry
 entries_fit (e ∷ es) bytes all are =
     All-cons FitsEntry e es (entry_fits bytes e all are.0) (entries_fit es (drop 20 bytes) (All-drop (λ (b : ℕ). b < 2 ^ 8) 20 bytes all) are.1)
+
+-- ---- what is written is bytes
+
+byte_of : (k n : ℕ) → byte_at k n < 2 ^ 8
+byte_of zero n = omega arith
+byte_of (suc k) n = omega arith
+
+number_in_bytes : (k n : ℕ) → AreBytes (big_bytes k n)
+number_in_bytes zero n = All-nil (λ (b : ℕ). b < 2 ^ 8)
+number_in_bytes (suc k) n = All-cons (λ (b : ℕ). b < 2 ^ 8) (byte_at k n) (big_bytes k n) (byte_of k n) (number_in_bytes k n)
+
+both : (xs ys : List ℕ) → AreBytes xs → AreBytes ys → AreBytes (xs ++ ys)
+both xs ys all more = All-append (λ (b : ℕ). b < 2 ^ 8) xs ys all more
+
+entry_in_bytes : (e : Entry) → AreBytes (entry_bytes e)
+unfolding entry_bytes
+entry_in_bytes e =
+    let family = big_bytes 2 e.family in
+    let tag = big_bytes 2 e.tag in
+    let address = big_bytes 4 e.address in
+    let mask = big_bytes 4 e.mask in
+    let hop = big_bytes 4 e.hop in
+    both (family ++ tag ++ address ++ mask ++ hop) (big_bytes 4 e.metric)
+    (both (family ++ tag ++ address ++ mask) hop
+    (both (family ++ tag ++ address) mask
+    (both (family ++ tag) address (both family tag (number_in_bytes 2 e.family) (number_in_bytes 2 e.tag)) (number_in_bytes 4 e.address))
+    (number_in_bytes 4 e.mask)) (number_in_bytes 4 e.hop)) (number_in_bytes 4 e.metric)
+
+entries_in_bytes : (es : List Entry) → AreBytes (entries_bytes es)
+entries_in_bytes [] = All-nil (λ (b : ℕ). b < 2 ^ 8)
+entries_in_bytes (e ∷ es) = both (entry_bytes e) (entries_bytes es) (entry_in_bytes e) (entries_in_bytes es)
+
+command_is : (n : ℕ) → (n ≡ 1) ⊎ (n ≡ 2) → n < 2 ^ 8
+command_is n is = elim is [ inl one ↦ omega (arith, one) | inr two ↦ omega (arith, two) ]
+
+pub message_in_bytes : (m : Message) → IsEncodable m → AreBytes (message_bytes m)
+message_in_bytes m encodable =
+    let P : ℕ → Type 0 = λ b. b < 2 ^ 8 in
+    let text = entries_bytes m.entries in
+    All-cons P m.command (2 ∷ 0 ∷ 0 ∷ text) (command_is m.command encodable.command)
+    (All-cons P 2 (0 ∷ 0 ∷ text) (omega arith) (All-cons P 0 (0 ∷ text) (omega arith) (All-cons P 0 text (omega arith) (entries_in_bytes m.entries))))

@@ -16,9 +16,10 @@ pub fn one_message()
     ensures { (bytes : List ℕ) (m n : Message) → IsMessage bytes m → IsMessage bytes n → m ≡ n }
 {}
 
-/// The message for which bytes are written is read from them.
+/// The message for which bytes are written is read from them, and each of them is a byte.
 pub fn written_messages_are_read()
-    ensures { (m : Message) → IsEncodable m → All FitsEntry m.entries → message_at (message_bytes m) ≡ Some m }
+    ensures read { (m : Message) → IsEncodable m → All FitsEntry m.entries → message_at (message_bytes m) ≡ Some m }
+    ensures bytes { (m : Message) → IsEncodable m → All (λ b. b < 2 ^ 8) (message_bytes m) }
 {}
 
 /// The bytes from which a message is read are written for it again, but that the two behind the version are zero.

@@ -29,6 +29,7 @@ use Rattle.rip_guest.specs.Sound.{AreSettings, HasBytes, IsSetting, IsSoundState
 use Rattle.rip_guest.specs.State.{Prefix, RipState, has_port, opening, with_routes}
 use Rattle.rip_guest.specs.Step.{handled, is_passed_over, is_update_due, rip_after, routes_after_message, tick_routes, triggered_sent}
 use Rattle.rip_guest.proofs.Choice.{choose}
+use Rattle.rip_guest.proofs.Inputs.{taken, there_by}
 use Rattle.rip_guest.proofs.laws.sound_states.Goals as goal
 
 abbrev Laws : Type 0
@@ -111,22 +112,12 @@ sound_command c ports now body routes bytes sound =
 
 -- ---- a step
 
-record IsTaken (tick group : ℕ) : Type 0 where
-  rises : tick ≤ group
-  early : group ≤ 65535
-
-taken : (tick group : ℕ) → (nat_lt group tick || nat_lt 65535 group) ≡ false → IsTaken tick group
-taken tick group t = record { rises = grind (arith, nat_tests); early = grind (arith, nat_tests) }
-
 sound_ticked : (c : Laws) (s : RipState) (group : ℕ) → s.last_tick ≤ group → IsSoundState s → IsSoundTable (length s.costs) group (tick_routes s group)
 sound_ticked c s group rises sound =
     let P : Routes → Type 0 = IsSoundTable (length s.costs) group in
     let timed : P (ticked group s.routes) = c.sound_tables.ensures.tick (length s.costs) s.last_tick group s.routes rises sound.routes in
     choose P (is_update_due s group) (all_changed settled (ticked group s.routes)) (ticked group s.routes)
     (λ _. c.sound_tables.ensures.settle (length s.costs) group (ticked group s.routes) timed) (λ _. timed)
-
-there_by : (port ports : ℕ) → nat_lt port ports ≡ true → port < ports
-there_by port ports t = grind (arith, nat_tests)
 
 sound_handled : (c : Laws) (s : RipState) (i : Input) → HasBytes i → is_passed_over s i ≡ false → IsSoundState s → IsSoundState (handled s i)
 sound_handled c s (input.Tick group) bytes here sound =

@@ -1,4 +1,4 @@
-use Rattle.rip_table.proofs.Sound.{sound_connect, sound_empty, sound_lose, sound_lose_port, sound_response, sound_settle, sound_tick}
+use Rattle.rip_table.proofs.Sound.{sound_connect, sound_empty, sound_held, sound_lose, sound_lose_port, sound_response, sound_settle, sound_tick}
 use Rattle.rip_table.proofs.laws.sound_tables.Goals as goal
 
 pub returns-clause-new : goal.returns-clause-new
@@ -21,3 +21,6 @@ returns-clause-tick c = sound_tick
 
 pub returns-clause-settle : goal.returns-clause-settle
 returns-clause-settle c = sound_settle
+
+pub returns-clause-held : goal.returns-clause-held
+returns-clause-held c = sound_held
