@@ -54,11 +54,12 @@ def shaken(text: bytes, number: int) -> bytes:
 
 
 def storm() -> bytes:
-    """The output for a case of 18,064 rows of bench/inputs.py."""
+    """The output for storm_40 of bench/inputs.py with five commands more: 20,314 rows."""
+    more = b"".join(b"@0 r0 cmd ff%02x\n" % number for number in range(5))
     with tempfile.TemporaryDirectory() as folder:
         subprocess.run(["python3", os.path.join(TOP, "bench", "inputs.py"), folder], check=True)
         with open(os.path.join(folder, "storm_40.case"), "rb") as file:
-            return lockstep(file.read())
+            return lockstep(file.read().replace(b"feed\n", b"feed\n" + more))
 
 
 class Rows(unittest.TestCase):
@@ -201,8 +202,8 @@ class Browser(unittest.TestCase):
         self.assertEqual((seen["found"], seen["match"]), ("268 matches", 8))
 
     def test_many_rows(self):
-        """18,064 rows."""
-        self.check(self.drive(storm(), "--quick"), 18_064, 64)
+        """20,314 rows."""
+        self.check(self.drive(storm(), "--quick"), 20_314, 64)
 
     def test_screenshots(self):
         """Three sizes, light and dark, of one run, of two, and of a journal."""
