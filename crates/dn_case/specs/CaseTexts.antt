@@ -8,7 +8,8 @@ use Rattle.dn_model.specs.Cases.{Recording, IsRecording}
 use Rattle.dn_case.specs.Shapes.{Line}
 use Rattle.dn_case.specs.Spelling.{spelled, prefix_line, lines_with}
 
--- Items, each with the number of a list: those of each list are its items in their order, and there are no others.
+-- Several lists in one, each item with the number of its list: those of each number are that list, in its order. No
+-- item has another number.
 abbrev pub IsInterleaving : {X : Type 0} → List (List X) → List (ℕ × X) → Type 0
 IsInterleaving {X = X} lists items = (i : ℕ) → map (λ (x : ℕ × X). x.1) (filter (λ (x : ℕ × X). x.0 == i) items) ≡ get_or lists i []
 
@@ -19,7 +20,7 @@ prefixes_of routers = map (λ r. r.prefixes) routers
 abbrev pub numbered_lines : List RouterDef → List (ℕ × Prefix) → List Line
 numbered_lines routers prefixes = map (λ (x : ℕ × Prefix). prefix_line (name_at routers x.0) x.1) prefixes
 
--- the prefixes of a case, each with the number of its router, in an order that keeps each router's own
+-- The prefixes of a case, each with the number of its router, in an order that keeps each router's own.
 abbrev pub KeepsOrder : Recording → List (ℕ × Prefix) → Type 0
 KeepsOrder c prefixes = IsInterleaving (prefixes_of c.header.routers) prefixes
 
