@@ -1,0 +1,32 @@
+//! Tests of public calls: what no clause says, and neither a command nor a table shows.
+//!
+//! A clause holds for all inputs, so no test repeats one. A command on an input is a case of the folder
+//! `tests/commands` beside the crates, and what a part of a router, a fabric or an engine does turn by turn is a
+//! line of a table there. Here are the calls that no program makes, each once with ample memory; the words of
+//! errors; tables too long for a text; and each law of networks at a concrete guest.
+//!
+//! | File | What it tests |
+//! |---|---|
+//! | `calls.rt` | calls of the model, of one router, of its kept nodes, of lists and tables |
+//! | `commands.rt` | `defined_plain` on a source and a sink that fail at a numbered call or move single bytes |
+//! | `full.rt` | a full link-state database, a full RIP routing table |
+//! | `laws.rt` | each law of networks at the flooding guest |
+//! | `streams.rt` | the output buffer, and a caller that is proved over its contract; the words of errors |
+//! | `traces.rt` | single rows and states, rows that come in pieces |
+//!
+//! A test is proved before it runs. Most of that time goes into the first call of each crate, whose definitions are
+//! then loaded, and into long constants. So these tests stand in one crate, and a text that can be a file is one.
+#![tactic(auto)]
+
+#[cfg(test)]
+mod calls;
+#[cfg(test)]
+mod commands;
+#[cfg(test)]
+mod full;
+#[cfg(test)]
+mod laws;
+#[cfg(test)]
+mod streams;
+#[cfg(test)]
+mod traces;
