@@ -108,6 +108,19 @@ impl<'a> Fields<'a> {
         }
     }
 
+    /// The number of at most `most` that the word says in hexadecimal.
+    pub fn hex_of(&mut self, word: &[u8], most: u64) -> u64
+        ensures { result ≤ most }
+    {
+        match hexadecimal(word) {
+            Some(number) if number <= most => number,
+            _ => {
+                self.is_wrong = true;
+                0
+            }
+        }
+    }
+
     /// The address that the word says: four decimal numbers with dots between.
     pub fn address_of(&mut self, word: &[u8]) -> u32 {
         let mut address = 0u32;
@@ -167,5 +180,23 @@ impl<'a> Fields<'a> {
         }
         let word = self.word();
         self.bytes_of(alloc, word)
+    }
+}
+
+/// The number that the digits say, the highest first, modulo 2^64; None where one is no digit.
+fn hexadecimal(word: &[u8]) -> Option<u64> {
+    let mut number = 0u64;
+    for byte in word {
+        number = number.wrapping_mul(16).wrapping_add(digit(*byte)?);
+    }
+    Some(number)
+}
+
+/// The value of a hexadecimal digit.
+fn digit(byte: u8) -> Option<u64> {
+    match byte {
+        b'0'..=b'9' => Some(u64::from(byte - b'0')),
+        b'a'..=b'f' => Some(u64::from(byte - b'a') + 10),
+        _ => None,
     }
 }

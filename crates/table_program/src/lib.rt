@@ -18,6 +18,7 @@
 //! | `ending.rt` | how a table ends: the exit status, and the words on standard error |
 //! | `fields.rt` | the words of a line |
 //! | `out.rt` | the text that is written |
+//! | `runs.rt` | flooding guests and the text of a key, for programs that run cases |
 //!
 //! Nothing is promised but that it ends and doesn't fail at run time: the tables test.
 #![tactic(auto)]
@@ -27,8 +28,10 @@ mod fields;
 mod out;
 mod play;
 mod program;
+mod runs;
 
 pub use fields::Fields;
 pub use out::Out;
 pub use play::Bench;
 pub use program::run;
+pub use runs::{flooding_guests, push_key};

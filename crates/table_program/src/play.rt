@@ -44,7 +44,11 @@ fn play_text<B: Bench>(
         return Ok(true);
     }
     let is_read = bench.take(alloc, text, out);
-    if out.is_short() { Err(NoMemory) } else { is_read }
+    if out.is_short() {
+        Err(NoMemory)
+    } else {
+        is_read
+    }
 }
 
 /// Whether it is a line that a program writes itself.
@@ -87,7 +91,9 @@ fn behind_end(text: &[u8]) -> &[u8]
 
 /// The number of the line with which the rest of the table begins.
 fn line_number(table: &[u8], rest: &[u8]) -> u64 {
-    lines_of(table).saturating_sub(lines_of(rest)).saturating_add(1)
+    lines_of(table)
+        .saturating_sub(lines_of(rest))
+        .saturating_add(1)
 }
 
 /// How many newlines the text has.
