@@ -3,20 +3,21 @@
 ghost use Rattle.std.specs.Prelude.{◌≡◌, ◌<◌, length, nat_lt, IfOk};
 ghost use Rattle.dn_world.specs.Steps.{is_injectable};
 
-use crate::shown::push_number;
+use crate::shown::next_work;
 use dn_fabric::{Fabric, Finished, Moved, Work};
-use dn_guest::{Bytes, Flood, Input, NoMemory};
+use dn_guest::{Flood, Input, NoMemory};
 use dn_journal::Step;
 use dn_model::{External, Header, ends};
 use dn_router::{Order, Outcome};
 use std::alloc::Global;
+use table_program::Out;
 
 /// Takes the step if it may be taken, and tells what Commit answered. Whether it could be taken.
 pub(crate) fn take(
     alloc: Global,
     fabric: &mut Fabric<Flood>,
     step: Step,
-    out: &mut Bytes,
+    out: &mut Out,
 ) -> Result<bool, NoMemory> {
     match step {
         Step::Beacon => beacon(fabric),
@@ -105,18 +106,21 @@ fn roll_back(fabric: &mut Fabric<Flood>, router: u16) -> Result<bool, NoMemory> 
 }
 
 /// Commits what is below the horizon, and tells how many rows there are more, or that the rows are cut.
-fn commit(fabric: &mut Fabric<Flood>, out: &mut Bytes) -> Result<bool, NoMemory> {
+fn commit(fabric: &mut Fabric<Flood>, out: &mut Out) -> Result<bool, NoMemory> {
     if fabric.stopped() {
         return Ok(false);
     }
-    match fabric.commit()? {
-        Moved::Moved(count) => {
-            push_number(out, b"moved ", count)?;
-            out.append(b"; ")?;
-        }
-        Moved::Cut => out.append(b"cut; ")?,
-    }
+    push_moved(fabric.commit()?, out);
     Ok(true)
+}
+
+/// What a Commit answered.
+fn push_moved(moved: Moved, out: &mut Out) {
+    match moved {
+        Moved::Moved(count) => out.number("moved ", count),
+        Moved::Cut => out.text("cut"),
+    }
+    out.text("; ");
 }
 
 /// The order of a router that is ready and not leased.
@@ -156,7 +160,7 @@ fn handle(fabric: &mut Fabric<Flood>, router: u16) -> Result<bool, NoMemory> {
 
 /// The next work as a step: None where there is none.
 fn next_step(fabric: &Fabric<Flood>) -> Option<Step> {
-    match fabric.next_work() {
+    match next_work(fabric) {
         Work::Deliver(place) => Some(Step::Deliver(place)),
         Work::RollBack(router) => Some(Step::RollBack(router)),
         Work::Handle(router) => Some(Step::Handle(router)),
@@ -167,7 +171,7 @@ fn next_step(fabric: &Fabric<Flood>) -> Option<Step> {
 
 /// Does the next work until there is none, at most 1,000 times. Whether each could be done, and none is left.
 pub(crate) fn work(alloc: Global, fabric: &mut Fabric<Flood>) -> Result<bool, NoMemory> {
-    let mut untold = Bytes::new(alloc);
+    let mut untold = Out::new(alloc);
     for _turn in 0..1000 {
         let Some(next) = next_step(fabric) else {
             return Ok(true);

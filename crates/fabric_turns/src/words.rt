@@ -1,11 +1,10 @@
 //! What a line says.
 
-use dn_case::KnownHeader;
 use dn_guest::{Bytes, NoMemory};
 use dn_journal::{Step, read_journal};
 use dn_model::Header;
-use dn_text::{decimal, first_part};
 use std::alloc::Global;
+use table_program::Fields;
 
 /// A line behind a case.
 #[derive(Drop)]
@@ -52,15 +51,9 @@ pub(crate) fn word_of(
     header: &Header,
     line: &[u8],
 ) -> Result<Option<Word>, NoMemory> {
-    let Some(text) = line.strip_suffix(b"\n") else {
-        return Ok(None);
-    };
-    if let Some(word) = plain_word(text) {
-        return Ok(Some(word));
-    }
-    let known = KnownHeader::new(alloc, header)?;
-    if let Some(word) = named_word(&known, text) {
-        return Ok(Some(word));
+    let mut fields = Fields::new(alloc, line)?;
+    if let Some(word) = own_word(header, &mut fields) {
+        return Ok(if fields.is_read() { Some(word) } else { None });
     }
     match step_of(alloc, header, line)? {
         Some(step) => Ok(Some(Word::Act(Act::Take(step)))),
@@ -68,44 +61,39 @@ pub(crate) fn word_of(
     }
 }
 
-/// A word that stands alone, and `shake` with its numbers.
-fn plain_word(text: &[u8]) -> Option<Word> {
-    if text == b"stop".as_slice() {
-        Some(Word::Act(Act::Stop))
-    } else if text == b"work".as_slice() {
-        Some(Word::Act(Act::Work))
-    } else if text == b"rows".as_slice() {
-        Some(Word::Ask(Ask::Rows))
-    } else if text == b"steps".as_slice() {
-        Some(Word::Ask(Ask::Steps))
-    } else if text == b"header".as_slice() {
-        Some(Word::Ask(Ask::Header))
-    } else if text == b"accepted".as_slice() {
-        Some(Word::Ask(Ask::Accepted))
-    } else {
-        shake_of(text.strip_prefix(b"shake ")?)
+/// A word that no journal has, with what stands behind it.
+fn own_word(header: &Header, fields: &mut Fields<'_>) -> Option<Word> {
+    match fields.word() {
+        b"stop" => Some(Word::Act(Act::Stop)),
+        b"work" => Some(Word::Act(Act::Work)),
+        b"rows" => Some(Word::Ask(Ask::Rows)),
+        b"steps" => Some(Word::Ask(Ask::Steps)),
+        b"header" => Some(Word::Ask(Ask::Header)),
+        b"accepted" => Some(Word::Ask(Ask::Accepted)),
+        b"lease" => Some(Word::Act(Act::Lease(router_of(header, fields)))),
+        b"finish" => Some(Word::Act(Act::Finish(router_of(header, fields)))),
+        b"state" => Some(Word::Ask(Ask::State(router_of(header, fields)))),
+        b"shake" => Some(Word::Ask(shake_of(fields))),
+        _ => None,
     }
 }
 
 /// The number of a schedule, and how many turns are taken.
-fn shake_of(text: &[u8]) -> Option<Word> {
-    let (number, rest) = first_part(b' ', text);
-    Some(Word::Ask(Ask::Shake(decimal(number)?, decimal(rest?)?)))
+fn shake_of(fields: &mut Fields<'_>) -> Ask {
+    let number = fields.number(u64::MAX);
+    Ask::Shake(number, fields.number(u64::MAX))
 }
 
-/// A word with a router's name.
-fn named_word(known: &KnownHeader, text: &[u8]) -> Option<Word> {
-    let (word, rest) = first_part(b' ', text);
-    let router = known.number_of(rest?)?;
-    if word == b"lease".as_slice() {
-        Some(Word::Act(Act::Lease(router)))
-    } else if word == b"finish".as_slice() {
-        Some(Word::Act(Act::Finish(router)))
-    } else if word == b"state".as_slice() {
-        Some(Word::Ask(Ask::State(router)))
-    } else {
-        None
+/// The number of the router whose name is next; if there is none that is noted.
+fn router_of(header: &Header, fields: &mut Fields<'_>) -> u16 {
+    let name = fields.word();
+    for (number, router) in header.routers.as_slice().iter().enumerate() {
+        if router.name.as_slice() == name {
+            return number as u16;
+        }
     }
+    fields.refuse();
+    0
 }
 
 /// The steps of a journal's text; None where it can't be read.
@@ -115,11 +103,17 @@ pub(crate) fn steps_of(alloc: Global, header: &Header, text: &[u8]) -> Option<Ve
 
 /// The step of a line with its newline: that of a journal of this one line.
 fn step_of(alloc: Global, header: &Header, line: &[u8]) -> Result<Option<Step>, NoMemory> {
-    let mut text = Bytes::from_slice(alloc, b"journal\n")?;
-    text.append(line)?;
-    text.append(b"end journal 1\n")?;
+    let text = journal_of(alloc, line)?;
     match steps_of(alloc, header, text.as_slice()) {
         Some(mut steps) => Ok(steps.pop()),
         None => Ok(None),
     }
+}
+
+/// The text of a journal of this one line.
+fn journal_of(alloc: Global, line: &[u8]) -> Result<Bytes, NoMemory> {
+    let mut text = Bytes::from_slice(alloc, b"journal\n")?;
+    text.append(line)?;
+    text.append(b"end journal 1\n")?;
+    Ok(text)
 }

@@ -1,6 +1,6 @@
 //! What an OSPF router's image tells of neighbours, LSAs and retransmission lists (docs/OSPF.md, "Image").
 
-use crate::out::Out;
+use table_program::Out;
 
 /// How many bytes of an image stand before the number of own networks, how many each of these has, and
 /// each entry of a list.

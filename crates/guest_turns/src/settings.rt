@@ -2,13 +2,13 @@
 
 ghost use Rattle.std.specs.Prelude.{◌≤◌, IfOk, length, vec_len};
 
-use crate::fields::Fields;
 use dn_guest::{Flood, NoMemory};
 use guest_any::AnyGuest;
 use ospf_guest::Ospf;
 use ospf_router::OspfSettings;
 use rip_guest::{Rip, RipSettings};
 use std::alloc::Global;
+use table_program::Fields;
 
 /// How many ports a router may have.
 const MOST_PORTS: usize = 16;
@@ -23,7 +23,7 @@ struct Settings {
 
 /// A guest: `flood`, or `ospf` or `rip` with a number, the costs of the ports, and own networks.
 pub fn guest_of(alloc: Global, fields: &mut Fields<'_>) -> Result<AnyGuest, NoMemory> {
-    let kind = fields.field();
+    let kind = fields.word();
     if kind == b"ospf".as_slice() {
         return ospf(alloc, settings_of(alloc, fields)?);
     }
@@ -84,10 +84,23 @@ fn settings_of(alloc: Global, fields: &mut Fields<'_>) -> Result<Settings, NoMem
 /// A cost, perhaps behind the word `costs`, or the word `prefix` and a network.
 fn setting(fields: &mut Fields<'_>, settings: &mut Settings) -> Result<(), NoMemory> {
     if fields.takes(b"prefix") {
-        let (address, len) = fields.network();
-        settings.prefixes.push((address, len, fields.short()))?;
-    } else if !fields.takes(b"costs") {
-        settings.costs.push(fields.short())?;
+        add_prefix(fields, &mut settings.prefixes)
+    } else if fields.takes(b"costs") {
+        Ok(())
+    } else {
+        add_cost(fields, &mut settings.costs)
     }
+}
+
+/// A network, and its cost behind it.
+fn add_prefix(fields: &mut Fields<'_>, prefixes: &mut Vec<(u32, u8, u16)>) -> Result<(), NoMemory> {
+    let (address, len) = fields.network();
+    prefixes.push((address, len, fields.short()))?;
+    Ok(())
+}
+
+/// The cost of a port.
+fn add_cost(fields: &mut Fields<'_>, costs: &mut Vec<u16>) -> Result<(), NoMemory> {
+    costs.push(fields.short())?;
     Ok(())
 }

@@ -12,6 +12,7 @@ pub struct Out {
 }
 
 impl Out {
+    /// An empty text.
     pub fn new(alloc: Global) -> Out {
         Out {
             bytes: Bytes::new(alloc),
@@ -19,6 +20,7 @@ impl Out {
         }
     }
 
+    /// The text.
     pub fn as_slice(&self) -> &[u8] {
         self.bytes.as_slice()
     }
@@ -35,7 +37,7 @@ impl Out {
 
     /// Appends the text.
     pub fn text(&mut self, text: &str) {
-        self.is_short |= self.bytes.append(text.as_bytes()).is_err();
+        self.append(text.as_bytes());
     }
 
     /// Appends the text if it holds.
@@ -57,8 +59,12 @@ impl Out {
         self.is_short |= push_hex(&mut self.bytes, bytes).is_err();
     }
 
-    /// Appends the byte.
-    pub fn byte(&mut self, byte: u8) {
-        self.is_short |= self.bytes.push(byte).is_err();
+    /// Appends the text and the address, four numbers with dots between.
+    pub fn address(&mut self, text: &str, address: u32) {
+        let [a, b, c, d] = address.to_be_bytes();
+        self.number(text, u64::from(a));
+        self.number(".", u64::from(b));
+        self.number(".", u64::from(c));
+        self.number(".", u64::from(d));
     }
 }
