@@ -13,6 +13,7 @@
 //! | `checking.rt` | `check` |
 //! | `driven.rt` | the fabric of a case, and writing what it shows |
 //! | `rerun.rt` | `rerun` |
+//! | `ends.rt` | what the steps are that come to an end |
 //! | `shake.rt` | `shake` |
 //!
 //! The one contract upwards: the record `Promise` of `specs/Commands.antt`, what a command says of its
@@ -43,6 +44,7 @@
 
 mod checking;
 mod driven;
+mod ends;
 mod input;
 mod rerun;
 mod shake;

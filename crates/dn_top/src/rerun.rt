@@ -12,6 +12,7 @@ ghost use Rattle.dn_top.specs.Drives.{IsFabricOf, ShowsRun, Shows, Drives, IsJou
 
 use crate::checking::behind;
 use crate::driven::{fabric_of, push_ends, write_driven};
+use crate::ends::ends;
 use crate::status::Status;
 use dn_case::{CaseError, CaseFault, split_trace};
 use dn_drive::{Ended, replay};
@@ -41,6 +42,7 @@ pub(crate) fn rerun_case<K: Sink>(
     ensures fault { result ≡ Status.WriteFault → Rose (K.faults sink.old) (K.faults sink.new) }
     ensures later { K.faults sink.old ≤ K.faults sink.new }
 {
+    ends();
     match steps_behind(alloc, input, &case.header, size) {
         Ok(steps) => rerun_steps(alloc, case, steps.as_slice(), sink),
         Err(status) => status,

@@ -87,6 +87,17 @@ fn no_such_router(rt: HostRuntime) -> Result<(), NoMemory> {
 fn the_laws_hold_of_flooding_routers() {
     laws::whole_journals::<Flood>();
     laws::taken_steps::<Flood>();
+    laws::illegal_steps::<Flood>();
+    laws::open_steps::<Flood>();
+    laws::cut_runs::<Flood>();
     laws::schedules_are_taken::<Flood>();
     laws::only_a_commit_cuts::<Flood>();
+}
+
+#[test]
+fn the_laws_of_fabrics_hold_of_flooding_routers() {
+    dn_fabric::laws::networks::<Flood>();
+    dn_fabric::laws::stops::<Flood>();
+    dn_fabric::laws::reached_fabrics::<Flood>();
+    dn_fabric::laws::one_more_step::<Flood>();
 }

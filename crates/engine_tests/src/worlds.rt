@@ -6,6 +6,7 @@ use dn_world::laws;
 #[test]
 fn the_laws_hold_of_flooding_routers() {
     laws::playable_cases::<Flood>();
+    laws::before_the_first_step::<Flood>();
     laws::equation::<Flood>();
     laws::boundary::<Flood>();
     laws::prefix::<Flood>();
