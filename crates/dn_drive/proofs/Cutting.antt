@@ -10,8 +10,6 @@ use Rattle.dn_world.specs.declared.step.Step.TheVariants.{Beacon, Inject, Close,
 use Rattle.dn_world.specs.World.{Part, World, part}
 use Rattle.dn_world.specs.Steps.{is_enabled, beacon, inject, deliver, handle, roll_back, after}
 use Rattle.dn_world.specs.Runs.{IsAllPast, IsBalanced, settled_rows, is_cut_off}
-use Rattle.dn_world.proofs.Balance.{counted}
-use Rattle.dn_world.proofs.Growth.{rows_stay}
 
 deliver_bound : (w : World) (place : ℕ) (o : Option Packet) → (deliver w place o).boundary ≡ w.boundary
 unfolding deliver
@@ -24,18 +22,22 @@ module _ {S : Type 0} (net : Network S) where
   handle_bound w r p [] = refl
   handle_bound w r p (e ∷ es) = refl
 
-  same_cut : (w : World) (s : Step) → is_enabled net w s ≡ true → IsBalanced net w → IsAllPast net w.boundary w → (after net w s).boundary ≡ w.boundary → is_cut_off net w ≡ false → is_cut_off net (after net w s) ≡ true → s ≡ Commit
+  -- where the boundary stays the rows stay
+  abbrev RowsStay : Type 0
+  RowsStay = (w : World) (s : Step) → is_enabled net w s ≡ true → IsBalanced net w → IsAllPast net w.boundary w → (after net w s).boundary ≡ w.boundary → settled_rows net (after net w s) ≡ settled_rows net w
+
+  same_cut : RowsStay → (w : World) (s : Step) → is_enabled net w s ≡ true → IsBalanced net w → IsAllPast net w.boundary w → (after net w s).boundary ≡ w.boundary → is_cut_off net w ≡ false → is_cut_off net (after net w s) ≡ true → s ≡ Commit
   unfolding is_cut_off
-  same_cut w s h b p e un cu =
-      let same : nat_lt row_limit (length (settled_rows net (after net w s))) ≡ nat_lt row_limit (length (settled_rows net w)) = ap (λ rs. nat_lt row_limit (length rs)) (rows_stay net w s h (counted net w b) p e) in
+  same_cut stay w s h b p e un cu =
+      let same : nat_lt row_limit (length (settled_rows net (after net w s))) ≡ nat_lt row_limit (length (settled_rows net w)) = ap (λ rs. nat_lt row_limit (length rs)) (stay w s h b p e) in
       absurd (let both : true ≡ false = sym cu ∙ same ∙ un in cc)
 
-  pub only_commit_cuts : (w : World) (s : Step) → is_enabled net w s ≡ true → IsBalanced net w → IsAllPast net w.boundary w → is_cut_off net w ≡ false → is_cut_off net (after net w s) ≡ true → s ≡ Commit
+  pub only_commit_cuts : RowsStay → (w : World) (s : Step) → is_enabled net w s ≡ true → IsBalanced net w → IsAllPast net w.boundary w → is_cut_off net w ≡ false → is_cut_off net (after net w s) ≡ true → s ≡ Commit
   unfolding after beacon inject roll_back
-  only_commit_cuts w Beacon h b p un cu = same_cut w Beacon h b p refl un cu
-  only_commit_cuts w (Inject x) h b p un cu = same_cut w (Inject x) h b p refl un cu
-  only_commit_cuts w Close h b p un cu = same_cut w Close h b p refl un cu
-  only_commit_cuts w (Deliver place) h b p un cu = same_cut w (Deliver place) h b p (deliver_bound w place (slice_get w.flight place)) un cu
-  only_commit_cuts w (Handle r) h b p un cu = same_cut w (Handle r) h b p (handle_bound w r (part w r) (part w r).todo) un cu
-  only_commit_cuts w (RollBack r) h b p un cu = same_cut w (RollBack r) h b p refl un cu
-  only_commit_cuts w Commit h b p un cu = refl
+  only_commit_cuts stay w Beacon h b p un cu = same_cut stay w Beacon h b p refl un cu
+  only_commit_cuts stay w (Inject x) h b p un cu = same_cut stay w (Inject x) h b p refl un cu
+  only_commit_cuts stay w Close h b p un cu = same_cut stay w Close h b p refl un cu
+  only_commit_cuts stay w (Deliver place) h b p un cu = same_cut stay w (Deliver place) h b p (deliver_bound w place (slice_get w.flight place)) un cu
+  only_commit_cuts stay w (Handle r) h b p un cu = same_cut stay w (Handle r) h b p (handle_bound w r (part w r) (part w r).todo) un cu
+  only_commit_cuts stay w (RollBack r) h b p un cu = same_cut stay w (RollBack r) h b p refl un cu
+  only_commit_cuts stay w Commit h b p un cu = refl

@@ -5,7 +5,7 @@ use Rattle.std.specs.List.{AllByRecursion}
 use Rattle.std.specs.Ordering.{is_eq, nat_cmp, ordering_then}
 use Rattle.std.specs.declared.cmp.Ordering.{Ordering}
 use Rattle.std.specs.declared.cmp.Ordering.TheVariants.{Less, Equal, Greater}
-use Rattle.std.proofs.lemmas.Bool.{ltb-true, eqb-true}
+use Rattle.std.proofs.lemmas.Bool.{and_parts, ltb-true, eqb-true}
 use Rattle.dn_guest.specs.declared.input.Input.{Input}
 use Rattle.dn_guest.specs.InputOrder.{input_cmp}
 use Rattle.dn_model.specs.declared.key.Key.{Key}
@@ -22,7 +22,6 @@ use Rattle.dn_world.specs.declared.step.Step.TheVariants.{Beacon, Inject, Close,
 use Rattle.dn_world.specs.World.{Part, World, part, opening}
 use Rattle.dn_world.specs.Steps.{is_enabled, beacon, inject, deliver, handle, roll_back, after}
 use Rattle.dn_world.specs.Runs.{injects, run, StartsLater, Feeds, IsFedFrom}
-use Rattle.dn_world.proofs.Balance.{both_true}
 use Rattle.dn_fabric.specs.Fabrics.{Fabric, IsReached, HasStepped, stepped}
 use Rattle.dn_drive.specs.Allowed.{is_same_external, starts_later, is_fed, rest_after}
 use Rattle.dn_drive.proofs.May.{may}
@@ -48,8 +47,8 @@ input_same x y h =
 
 pub same_external : (x y : External) → is_same_external x y ≡ true → x ≡ y
 same_external x y h =
-    let a = both_true ((x.group == y.group) && (x.router == y.router)) (is_eq (input_cmp x.input y.input)) h in
-    let b = both_true (x.group == y.group) (x.router == y.router) a.0 in
+    let a = and_parts ((x.group == y.group) && (x.router == y.router)) (is_eq (input_cmp x.input y.input)) h in
+    let b = and_parts (x.group == y.group) (x.router == y.router) a.0 in
     let group : x.group ≡ y.group = eqb-true x.group y.group b.0 in
     let router : x.router ≡ y.router = eqb-true x.router y.router b.1 in
     let input : x.input ≡ y.input = input_same x.input y.input (is_equal (input_cmp x.input y.input) a.1) in

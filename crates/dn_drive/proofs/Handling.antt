@@ -12,20 +12,19 @@ use Rattle.dn_fabric.specs.declared.answer.Finished.TheVariants.{Applied, Stale}
 use Rattle.dn_fabric.specs.Fabrics.{Fabric, IsNetworkOf, HasStepped, router_of, with_lease}
 use Rattle.dn_fabric.specs.Answers.{IsOrdered, HasFinished}
 use Rattle.dn_drive.specs.Driving.{IsDriven}
-use Rattle.dn_drive.proofs.Networks.{somewhere}
 
 set_back : {X : Type 0} (xs : List X) (r : ℕ) (x y : X) → set (set xs r x) r y ≡ set xs r y
 set_back [] r x y = refl
 set_back (z ∷ zs) zero x y = refl
 set_back (z ∷ zs) (suc r) x y = ap (λ l. z ∷ l) (set_back zs r x y)
 
-module _ {S : Type 0} (m : Meaning S) (f : Fabric S) (d : IsDriven f) (r : ℕ) where
+module _ {S : Type 0} (m : Meaning S) (f : Fabric S) (some : (net : Network S) × IsNetworkOf net m f.live.header f.live.openings) (d : IsDriven f) (r : ℕ) where
   -- the task is the order that the router gives
   abbrev pub IsGiven : Task S → Type 0
   IsGiven task = (net : Network S) → IsNetworkOf net m f.live.header f.live.openings → task ≡ order_of m (router_of net f.live.world r)
 
   pub given_router : (task : Task S) → IsGiven task → task.router ≡ r
-  given_router task e = somewhere m f.live.header f.live.openings d.some d.one_each (λ net is. ap (λ (t : Task S). t.router) (e net is))
+  given_router task e = ap (λ (t : Task S). t.router) (e some.0 some.1)
 
   pub is_leased : (task : Task S) → IsGiven task → r < length f.live.header.routers → get_or (set f.leased r true) task.router false ≡ true
   is_leased task e l =

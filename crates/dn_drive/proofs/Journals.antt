@@ -5,22 +5,17 @@ use Rattle.std.specs.Option.{option_map_or}
 use Rattle.dn_model.specs.declared.feed.External.{External}
 use Rattle.dn_model.specs.Cases.{Heading, Recording, AreExternals, IsRecording}
 use Rattle.dn_model.specs.Network.{Network, routers}
-use Rattle.dn_model.specs.Settled.{IsTimed, IsPrefixOf}
+use Rattle.dn_model.specs.Settled.{IsPrefixOf}
 use Rattle.dn_world.specs.declared.step.Step.{Step}
 use Rattle.dn_world.specs.World.{World, opening, horizon, is_quiet}
-use Rattle.dn_world.specs.Steps.{after}
-use Rattle.dn_world.specs.Runs.{IsLegalFrom, IsLegalOf, injects, is_cut_off, run, world}
-use Rattle.dn_world.proofs.Balance.{IsCounted, balanced, step_counted}
-use Rattle.dn_world.proofs.Past.{horizon_least}
-use Rattle.dn_world.proofs.Quiet.{quiet_parts}
-use Rattle.dn_world.proofs.Sound.{opening_counted, opening_past, run_past}
-use Rattle.dn_world.proofs.Uses.{key_same}
+use Rattle.dn_world.specs.Steps.{is_enabled, after}
+use Rattle.dn_world.specs.Runs.{IsBalanced, IsLegalFrom, IsLegalOf, IsPast, injects, is_cut_off, run, world}
 use Rattle.dn_fabric.specs.Work.{can_commit}
 use Rattle.dn_drive.specs.declared.ended.Ended.{Ended}
 use Rattle.dn_drive.specs.declared.ended.Ended.TheVariants.{Whole, Cut, Illegal, Open}
 use Rattle.dn_drive.specs.Allowed.{end_of, is_allowed, legal_front, rerun, rest_after}
 use Rattle.dn_drive.specs.Choices.{choices, drawn, schedule}
-use Rattle.dn_drive.proofs.Ending.{no_more_above}
+use Rattle.dn_drive.proofs.Ending.{closed_if_quiet, no_more_above}
 use Rattle.dn_drive.proofs.Following.{rerun_on, rerun_cut, rerun_no, rerun_end, front_on, front_cut, front_no, front_end}
 use Rattle.dn_drive.proofs.Going.{Goes, goes_on, injects_on, no_more_on}
 use Rattle.dn_drive.proofs.Scheduling.{chosen_allowed, schedule_on, schedule_zero}
@@ -37,7 +32,7 @@ never_cut : (b : Bool) → (if b then Whole else Open) ≡ Cut → ⊥
 never_cut true e = cc
 never_cut false e = cc
 
-end_whole : (h : Heading) (w : World) → end_of h w ≡ Whole → (is_quiet w ≡ true) × (can_commit h w ≡ false)
+pub end_whole : (h : Heading) (w : World) → end_of h w ≡ Whole → (is_quiet w ≡ true) × (can_commit h w ≡ false)
 unfolding end_of
 end_whole h w e = ends_whole (is_quiet w) (can_commit h w) e
 
@@ -168,17 +163,14 @@ module _ {S : Type 0} (net : Network S) where
 
       pub whole_all : injects steps ≡ feed
       whole_all =
-          let none : whole_legal.further ≡ [] = whole_legal.no_more (quiet_parts (world net steps) end.0).0 in
+          let none : whole_legal.further ≡ [] = whole_legal.no_more (closed_if_quiet (world net steps) end.0) in
           sym (append-nil (injects steps)) ∙ ap (λ l. injects steps ++ l) (sym none) ∙ whole_legal.whole
 
       pub whole_quiet : is_quiet (world net steps) ≡ true
       whole_quiet = end.0
 
-      pub whole_committed : IsTimed net.header → (world net steps).boundary ≡ horizon net.header (world net steps)
-      whole_committed t =
-          let w = world net steps in
-          let past = run_past net t (opening (routers net)) (opening_counted net) (opening_past net) steps whole_legal.legal in
-          key_same w.boundary (horizon net.header w) (horizon_least net w.boundary w past) (no_more_above net feed w end.1)
+      pub whole_no_more : IsPast (horizon net.header (world net steps)) (world net steps).boundary
+      whole_no_more = no_more_above net.header (world net steps) end.1
 
   -- ---- schedules
 
@@ -188,28 +180,32 @@ module _ {S : Type 0} (net : Network S) where
       subst (λ l. legal_front net w xs l ≡ l) (sym e)
       (front_on net w xs s (schedule net (after net w s) (rest_after xs s) (drawn h) m) a c ∙ ap (λ l. s ∷ l) (more c))
 
-  parts_of : (w : World) → IsCounted net w → length w.parts ≡ length net.header.routers
+  parts_of : (w : World) → IsBalanced net w → length w.parts ≡ length net.header.routers
   unfolding routers
-  parts_of w c = (balanced net w c).count
+  parts_of w b = b.count
 
   schedule_stops : (w : World) (xs : List External) (h m : ℕ) → slice_get (choices net.header w xs) (drawn h % length (choices net.header w xs)) ≡ None → schedule net w xs h (suc m) ≡ []
   unfolding schedule
   schedule_stops w xs h m at =
       ap (λ o. option_map_or (λ s. s ∷ (if is_cut_off net (after net w s) then [] else schedule net (after net w s) (rest_after xs s) (drawn h) m)) o []) at
 
-  chosen_front : (feed : List External) (w : World) (xs : List External) (h m : ℕ) → Goes net.header feed w xs → IsCounted net w → ((s : Step) → is_allowed net w xs s ≡ true → legal_front net (after net w s) (rest_after xs s) (schedule net (after net w s) (rest_after xs s) (drawn h) m) ≡ schedule net (after net w s) (rest_after xs s) (drawn h) m) → (o : Option Step) → slice_get (choices net.header w xs) (drawn h % length (choices net.header w xs)) ≡ o → legal_front net w xs (schedule net w xs h (suc m)) ≡ schedule net w xs h (suc m)
+  chosen_front : (feed : List External) (w : World) (xs : List External) (h m : ℕ) → Goes net.header feed w xs → IsBalanced net w → ((s : Step) → is_allowed net w xs s ≡ true → legal_front net (after net w s) (rest_after xs s) (schedule net (after net w s) (rest_after xs s) (drawn h) m) ≡ schedule net (after net w s) (rest_after xs s) (drawn h) m) → (o : Option Step) → slice_get (choices net.header w xs) (drawn h % length (choices net.header w xs)) ≡ o → legal_front net w xs (schedule net w xs h (suc m)) ≡ schedule net w xs h (suc m)
   chosen_front feed w xs h m g c more None at = subst (λ l. legal_front net w xs l ≡ l) (sym (schedule_stops w xs h m at)) (front_end net w xs)
   chosen_front feed w xs h m g c more (Some s) at =
       let a : is_allowed net w xs s ≡ true = chosen_allowed net net.header w xs feed (drawn h % length (choices net.header w xs)) s refl (parts_of w c) g at in
       turn_front w xs h m s a (λ _. more s a) (is_cut_off net (after net w s)) refl (schedule net w xs h (suc m)) (schedule_on net w xs h (suc m) m s refl at)
 
-  schedule_front : (feed : List External) (w : World) (xs : List External) (h n : ℕ) → Goes net.header feed w xs → IsCounted net w → legal_front net w xs (schedule net w xs h n) ≡ schedule net w xs h n
-  schedule_front feed w xs h zero g c = subst (λ l. legal_front net w xs l ≡ l) (sym (schedule_zero net w xs h zero refl)) (front_end net w xs)
-  schedule_front feed w xs h (suc m) g c =
+  -- each enabled step keeps the balance
+  abbrev StaysBalanced : Type 0
+  StaysBalanced = (w : World) (s : Step) → is_enabled net w s ≡ true → IsBalanced net w → IsBalanced net (after net w s)
+
+  schedule_front : StaysBalanced → (feed : List External) (w : World) (xs : List External) (h n : ℕ) → Goes net.header feed w xs → IsBalanced net w → legal_front net w xs (schedule net w xs h n) ≡ schedule net w xs h n
+  schedule_front stays feed w xs h zero g c = subst (λ l. legal_front net w xs l ≡ l) (sym (schedule_zero net w xs h zero refl)) (front_end net w xs)
+  schedule_front stays feed w xs h (suc m) g c =
       chosen_front feed w xs h m g c
       (λ s a.
       let p = allowed_parts net xs w xs s a in
-      schedule_front feed (after net w s) (rest_after xs s) (drawn h) m (goes_on net feed w xs s p.0 p.1 g) (step_counted net w s p.0 c))
+      schedule_front stays feed (after net w s) (rest_after xs s) (drawn h) m (goes_on net feed w xs s p.0 p.1 g) (stays w s p.0 c))
       (slice_get (choices net.header w xs) (drawn h % length (choices net.header w xs))) refl
 
   opening_goes : (case : Recording) → IsRecording case → net.header ≡ case.header → Goes net.header case.feed (opening (routers net)) case.feed
@@ -224,6 +220,6 @@ module _ {S : Type 0} (net : Network S) where
         no_more = λ c. absurd (cc);
       }
 
-  pub schedule_taken : (case : Recording) (number turns : ℕ) → IsRecording case → net.header ≡ case.header → legal_front net (opening (routers net)) case.feed (schedule net (opening (routers net)) case.feed number turns) ≡ schedule net (opening (routers net)) case.feed number turns
-  schedule_taken case number turns is same =
-      schedule_front case.feed (opening (routers net)) case.feed number turns (opening_goes case is same) (opening_counted net)
+  pub schedule_taken : StaysBalanced → IsBalanced net (opening (routers net)) → (case : Recording) (number turns : ℕ) → IsRecording case → net.header ≡ case.header → legal_front net (opening (routers net)) case.feed (schedule net (opening (routers net)) case.feed number turns) ≡ schedule net (opening (routers net)) case.feed number turns
+  schedule_taken stays balanced case number turns is same =
+      schedule_front stays case.feed (opening (routers net)) case.feed number turns (opening_goes case is same) balanced

@@ -1,4 +1,3 @@
-pub mod Networks
 pub mod May
 pub mod Stays
 pub mod Handling
@@ -11,3 +10,4 @@ pub mod Ways
 pub mod Scheduling
 pub mod Cutting
 pub mod Journals
+pub mod Outcomes

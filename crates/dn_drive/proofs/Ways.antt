@@ -1,6 +1,7 @@
 -- The way of a fabric through a case, step by step.
 use Rattle.std.proofs.Common.{◌≡◌, ℕ, zero, suc, ◌<◌, ◌≤◌, Bool, true, false, List, [], ◌∷◌, ◌++◌, length, refl, sym, ap, ◌∙◌, subst, ◌+◌, take, drop, append-nil, arith}
 use Rattle.std.proofs.lemmas.List.{length-replicate, length-take-le, take-append-drop}
+use Rattle.std.proofs.lemmas.Bool.{and_parts}
 use Rattle.std.proofs.Math.Seq.{drop-cons, take-suc}
 use Rattle.std.proofs.Math.ListN.{drop_of_length-le}
 use Rattle.std.specs.Prelude.{get_or, replicate}
@@ -12,12 +13,10 @@ use Rattle.dn_world.specs.declared.step.Step.{Step}
 use Rattle.dn_world.specs.World.{World, opening}
 use Rattle.dn_world.specs.Steps.{is_enabled}
 use Rattle.dn_world.specs.Runs.{IsFedFrom}
-use Rattle.dn_world.proofs.Balance.{both_true}
 use Rattle.dn_fabric.specs.Fabrics.{Fabric, IsNetworkOf, IsReached, HasStepped, opening_fabric}
 use Rattle.dn_drive.specs.Allowed.{is_fed, rest_after, is_allowed_here, is_allowed}
 use Rattle.dn_fabric.specs.Driven.{IsOpening}
 use Rattle.dn_drive.specs.Driving.{IsDriven, IsOfSameNetwork}
-use Rattle.dn_drive.proofs.Networks.{somewhere}
 use Rattle.dn_drive.proofs.Going.{IsOn, step_on}
 use Rattle.dn_drive.proofs.Following.{Follows, follows_on}
 use Rattle.dn_drive.proofs.Allowing.{allowed_is}
@@ -55,7 +54,7 @@ module _ {S : Type 0} (net : Network S) (feed : List External) where
 
   pub allowed_parts : (w : World) (xs : List External) (s : Step) → is_allowed net w xs s ≡ true → (is_enabled net w s ≡ true) × (is_fed w.floor xs s ≡ true)
   unfolding is_allowed
-  allowed_parts w xs s a = both_true (is_enabled net w s) (is_fed w.floor xs s) a
+  allowed_parts w xs s a = and_parts (is_enabled net w s) (is_fed w.floor xs s) a
 
   pub on_on : (f now : Fabric S) (xs : List External) (s : Step) → IsWay f xs → is_allowed net f.live.world xs s ≡ true → HasStepped net f s now → IsOn net feed now (rest_after xs s)
   on_on f now xs s v a h =
@@ -72,9 +71,9 @@ get_replicate (suc n) zero x = refl
 get_replicate (suc n) (suc r) x = get_replicate n r x
 
 -- a fabric before its first step is driven
-pub driven_first : {S : Type 0} (m : Meaning S) (f : Fabric S) → IsOpening f → 1 ≤ length f.live.header.routers → ((net : Network S) → IsNetworkOf net m f.live.header f.live.openings → IsReached net f) → IsDriven f
+pub driven_first : {S : Type 0} (m : Meaning S) (f : Fabric S) → IsOpening f → 1 ≤ length f.live.header.routers → (net : Network S) × IsNetworkOf net m f.live.header f.live.openings → ((net : Network S) → IsNetworkOf net m f.live.header f.live.openings → IsReached net f) → IsDriven f
 unfolding routers
-driven_first {S = S} m f o some r =
+driven_first {S = S} m f o some found r =
     let leased = ap (λ (g : Fabric S). g.leased) o.is in
     record {
       some = some;
@@ -82,7 +81,7 @@ driven_first {S = S} m f o some r =
       leases = ap length leased ∙ length-replicate (length f.live.header.routers) false;
       running = ap (λ (g : Fabric S). g.live.stopped) o.is;
       free = λ n. ap (λ l. get_or l n false) leased ∙ get_replicate (length f.live.header.routers) n false;
-      parts = somewhere m f.live.header f.live.openings some o.one_each (λ net is. (r net is).balanced.count ∙ ap (λ (h : Heading). length h.routers) is.header);
+      parts = (r found.0 found.1).balanced.count ∙ ap (λ (h : Heading). length h.routers) found.1.header;
     }
 
 -- ---- the network stays

@@ -1,4 +1,5 @@
 pub mod Allowed
+pub mod Outcomes
 pub mod Choices
 pub mod Driving
 pub mod Counting

@@ -2,7 +2,8 @@
 
 ghost use Rattle.std.specs.Prelude.{◌≡◌, true, false};
 ghost use Rattle.dn_model.specs.Network.{Network};
-ghost use Rattle.dn_world.specs.World.{is_quiet};
+ghost use Rattle.dn_world.specs.World.{horizon, is_quiet};
+ghost use Rattle.dn_world.specs.Runs.{IsAllPast};
 ghost use Rattle.dn_fabric.specs.Fabrics.{IsNetworkOf};
 ghost use Rattle.dn_fabric.specs.Promises.{IsAtRest};
 ghost use Rattle.dn_fabric.specs.Work.{can_commit};
@@ -31,7 +32,11 @@ pub(crate) fn end_of<G: Guest>(fabric: &Fabric<G>) -> Ended
     ensures answer { result ≡ end_of fabric.now.live.header fabric.now.live.world }
     ensures legal { IsLegalEnd result }
     ensures at_rest { (net : Network G) → IsNetworkOf net G.meaning fabric.now.live.header fabric.now.live.openings → fabric.now.live.stopped ≡ false → is_quiet fabric.now.live.world ≡ true → IsAtRest net fabric.now.live }
+    ensures committed { (net : Network G) → net.header ≡ fabric.now.live.header
+        → IsAllPast net fabric.now.live.world.boundary fabric.now.live.world → result ≡ Ended.Whole
+        → fabric.now.live.world.boundary ≡ horizon net.header fabric.now.live.world }
 {
+    dn_world::laws::horizon::<G>();
     let quiet = fabric.quiet();
     let more = can_commit(fabric);
     if quiet && !more {

@@ -17,9 +17,10 @@
 //! | `ended.rt` | `Ended`, what the steps came to |
 //! | `allowed.rt` | whether a step may be taken |
 //! | `choices.rt` | what a turn of a schedule chooses from: how many of each kind, and the one at a place |
-//! | `laws.rt` | what the steps are that come to an end, those that are taken, and those of a schedule; only a Commit cuts |
+//! | `laws.rt` | what the steps are that come to each answer, those that are taken, and those of a schedule; only a Commit cuts |
 //! | `taking.rt` | taking one step; a Handle is a lease, its computation, and the outcome that comes back |
 //! | `specs/Allowed.antt` | allowed steps, and what the steps of a journal come to |
+//! | `specs/Outcomes.antt` | where steps stop at Illegal and at Open |
 //! | `specs/Choices.antt` | what a turn chooses from, and the schedule of a number |
 //! | `specs/Endings.antt` | how a fabric stands after a drive |
 //!

@@ -13,6 +13,7 @@ ghost use Rattle.dn_drive.specs.Endings.{StandsAt};
 use crate::Ended;
 use crate::allowed::{is_allowed, rest_after};
 use crate::ended::end_of;
+use crate::laws::cut_runs;
 use crate::taking::take_step;
 use dn_fabric::Fabric;
 use dn_guest::{Guest, NoMemory};
@@ -41,6 +42,8 @@ pub fn replay<G: Guest>(
 {
     // What the journal's own contract says holds of the fabric as it is given.
     let _journal = fabric.journal();
+    dn_fabric::laws::networks::<G>();
+    cut_runs::<G>();
     let mut rest = feed;
     for index in 0..steps.len() {
         let step = &steps[index];

@@ -15,6 +15,7 @@ use crate::Ended;
 use crate::allowed::rest_after;
 use crate::choices::{Counts, choice};
 use crate::ended::end_of;
+use crate::laws::cut_runs;
 use crate::taking::take_step;
 use dn_fabric::Fabric;
 use dn_guest::{Guest, NoMemory};
@@ -44,6 +45,8 @@ pub fn shake<G: Guest>(
 {
     // What the journal's own contract says holds of the fabric as it is given.
     let _journal = fabric.journal();
+    dn_fabric::laws::networks::<G>();
+    cut_runs::<G>();
     let mut rest = feed;
     let mut last = number;
     for _turn in 0..steps {

@@ -25,6 +25,7 @@ pub(crate) fn take_step<G: Guest>(
     ensures driven { OnOk result (IsDriven fabric.new) }
     ensures network { IsOfSameNetwork fabric.old fabric.new }
 {
+    dn_fabric::laws::networks::<G>();
     match step {
         Step::Beacon => fabric.beacon(),
         Step::Inject(external) => fabric.inject(external.router, external.input.copy(alloc)?),
@@ -45,6 +46,7 @@ fn handle<G: Guest>(fabric: &mut Fabric<G>, router: u16) -> Result<(), NoMemory>
     ensures ok { (net : Network G) → IsNetworkOf net G.meaning fabric.old.live.header fabric.old.live.openings → OnOk result (HasStepped net fabric.old (Handle router) fabric.new) }
     ensures err { OnErr result (IsOfSameNetwork fabric.old fabric.new) }
 {
+    dn_fabric::laws::networks::<G>();
     let order = fabric.lease(router)?;
     match order.compute() {
         Ok(outcome) => {

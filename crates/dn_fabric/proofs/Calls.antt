@@ -1,6 +1,6 @@
 -- What the calls of a fabric leave.
 use Rattle.std.proofs.Common.{◌≡◌, ℕ, zero, suc, ◌<◌, Bool, true, false, List, [], ◌∷◌, length, get_or, sym, ap, ◌∙◌, subst, arith}
-use Rattle.std.specs.Prelude.{slice_get, Result, Ok, Err, OnErr}
+use Rattle.std.specs.Prelude.{slice_get, Result, Ok, Err, OnErr, OnOk}
 use Rattle.std.specs.List.{AllByRecursion}
 use Rattle.std.proofs.lemmas.Bool.{false≢true}
 use Rattle.dn_guest.specs.Meaning.{Meaning}
@@ -10,11 +10,10 @@ use Rattle.dn_world.specs.declared.step.Step.{Step}
 use Rattle.dn_world.specs.World.{waiting, floor_bound, horizon}
 use Rattle.dn_world.specs.Steps.{is_enabled}
 use Rattle.dn_world.specs.Runs.{IsLegal, IsPast}
-use Rattle.dn_world.proofs.Past.{horizon_least}
-use Rattle.dn_fabric.specs.Fabrics.{Live, Fabric, IsNetworkOf, HasStepped, HasHalted, HasStopped, stepped}
+use Rattle.dn_fabric.specs.Fabrics.{Live, Fabric, IsNetworkOf, IsReached, HasStepped, HasHalted, HasStopped, stepped}
 use Rattle.dn_fabric.specs.Holds.{IsFabric}
 use Rattle.dn_fabric.proofs.Nets.{some_network}
-use Rattle.dn_fabric.proofs.Stepping.{reached_after, reached_leased}
+use Rattle.dn_fabric.proofs.Stepping.{StepLaws, reached_leased}
 
 -- the world is replaced, or the leases are
 abbrev pub with_live : {S : Type 0} → Fabric S → Live S → Fabric S
@@ -51,11 +50,15 @@ module _ {S : Type 0} (guests : Meaning S) where
   pub waiting_past : (f : Fabric S) → IsFabric guests f → f.live.stopped ≡ false → AllByRecursion (λ e. IsPast f.live.world.boundary e.key) (waiting f.live.world)
   waiting_past f holds running = let found = the_network f holds in (holds.reached found.0 found.1 running).past.waiting
 
-  pub horizon_past : (f : Fabric S) → IsFabric guests f → f.live.stopped ≡ false → IsPast f.live.world.boundary (horizon f.live.header f.live.world)
-  horizon_past f holds running =
+  -- the horizon isn't before the boundary
+  abbrev pub IsAhead : Type 0
+  IsAhead = (net : Network S) (f : Fabric S) → IsReached net f → IsPast f.live.world.boundary (horizon net.header f.live.world)
+
+  pub horizon_past : IsAhead → (f : Fabric S) → IsFabric guests f → f.live.stopped ≡ false → IsPast f.live.world.boundary (horizon f.live.header f.live.world)
+  horizon_past ahead f holds running =
       let found = the_network f holds in
       subst (λ h. IsPast f.live.world.boundary (horizon h f.live.world)) found.1.header
-      (horizon_least found.0 f.live.world.boundary f.live.world (holds.reached found.0 found.1 running).past)
+      (ahead found.0 f (holds.reached found.0 found.1 running))
 
   -- a fabric that was stopped, with its header, its openings and its journal from before
   pub halted_holds : (f now : Fabric S) → IsFabric guests f → HasStopped f now → now.leased ≡ f.leased → IsFabric guests now
@@ -80,10 +83,10 @@ module _ {S : Type 0} (guests : Meaning S) where
     reached = λ net is running. reached_leased net f leased (holds.reached net is running);
   }
 
-  module _ (f now : Fabric S) (s : Step) (holds : IsFabric guests f) (running : f.live.stopped ≡ false) (enabled : OfEach f (λ net. is_enabled net f.live.world s ≡ true)) (is : OfEach f (λ net. now ≡ stepped net f s)) where
+  module _ (laws : StepLaws S) (f now : Fabric S) (s : Step) (holds : IsFabric guests f) (running : f.live.stopped ≡ false) (enabled : OfEach f (λ net. is_enabled net f.live.world s ≡ true)) (is : OfEach f (λ net. now ≡ stepped net f s)) where
     -- the step was taken
     pub taken : OfEach f (λ net. HasStepped net f s now)
-    taken net of = subst (HasStepped net f s) (sym (is net of)) (reached_after net f s (rules_of f net holds of) (holds.reached net of running) (enabled net of))
+    taken net of = subst (HasStepped net f s) (sym (is net of)) (laws.onward net f s (rules_of f net holds of) (holds.reached net of running) (enabled net of))
 
     same_header : now.live.header ≡ f.live.header
     same_header = let found = the_network f holds in ap (λ (g : Fabric S). g.live.header) (is found.0 found.1)
@@ -124,3 +127,7 @@ module _ {S : Type 0} (guests : Meaning S) where
 pub on_err_all : {T E R : Type 0} (r : Result T E) → R → OnErr r R
 on_err_all (Ok x) h = tt
 on_err_all (Err e) h = h
+
+pub on_ok : {T E P R : Type 0} (r : Result T E) → OnOk r P → (P → R) → OnOk r R
+on_ok (Ok x) p f = f p
+on_ok (Err e) p f = tt

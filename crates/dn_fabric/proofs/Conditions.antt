@@ -21,7 +21,7 @@ use Rattle.dn_fabric.specs.declared.work.Work.TheVariants.{Deliver, RollBack, Ha
 use Rattle.dn_router.specs.Routers.{Speculation}
 use Rattle.dn_fabric.specs.Fabrics.{Fabric}
 use Rattle.dn_fabric.specs.Holds.{IsFabric}
-use Rattle.dn_fabric.proofs.Calls.{horizon_past}
+use Rattle.dn_fabric.proofs.Calls.{IsAhead, horizon_past}
 use Rattle.dn_fabric.specs.Work.{first_behind, is_earlier, earlier_of, least_ready, can_commit, committing, handling, rolling_back, delivering, next_work, IsFree, IsFirstBehind, IsStill, IsFirstFree, IsIdle, IsCommitted, HasWork}
 
 -- ---- the order of events
@@ -123,9 +123,9 @@ pub record IsKnown {S : Type 0} (f : Fabric S) : Type 0 where
   pub count : length f.live.world.parts ≡ length f.live.header.routers
   pub past : f.live.stopped ≡ false → IsPast f.live.world.boundary (horizon f.live.header f.live.world)
 
-pub known_of : {S : Type 0} (guests : Meaning S) (b f : Fabric S) → b ≡ f → IsFabric guests b → (rs : List (Speculation S)) → map (λ r. r.part) rs ≡ b.live.world.parts → length rs ≡ length b.live.header.routers → IsKnown f
-known_of {S} guests b f same holds rs parts count =
-    subst (λ (x : Fabric S). IsKnown x) same (record { count = ap length (sym parts) ∙ length-map rs (λ r. r.part) ∙ count; past = horizon_past guests b holds })
+pub known_of : {S : Type 0} (guests : Meaning S) → IsAhead guests → (b f : Fabric S) → b ≡ f → IsFabric guests b → (rs : List (Speculation S)) → map (λ r. r.part) rs ≡ b.live.world.parts → length rs ≡ length b.live.header.routers → IsKnown f
+known_of {S} guests ahead b f same holds rs parts count =
+    subst (λ (x : Fabric S). IsKnown x) same (record { count = ap length (sym parts) ∙ length-map rs (λ r. r.part) ∙ count; past = horizon_past guests ahead b holds })
 
 module _ {S : Type 0} (f : Fabric S) where
   -- ---- the free router whose least event is the least

@@ -1,22 +1,16 @@
 -- What a fabric that is reached promises of its rows, and of its end.
-use Rattle.std.proofs.Common.{◌≡◌, ℕ, ◌<◌, ◌≤◌, true, List, ◌++◌, length, take, sym, ap, ◌∙◌, subst}
+use Rattle.std.proofs.Common.{◌≡◌, ℕ, ◌<◌, ◌≤◌, true, false, List, [], ◌++◌, length, take, sym, ap, ◌∙◌, subst}
 use Rattle.std.specs.List.{filter, count_by}
 use Rattle.std.specs.List.Sorted.{IsPermutation, IsSorted}
 use Rattle.dn_model.specs.declared.key.Key.{Key}
+use Rattle.dn_model.specs.declared.event.Event.{Event}
 use Rattle.dn_model.specs.declared.feed.External.{External}
-use Rattle.dn_model.specs.Cases.{IsHeading}
 use Rattle.dn_model.specs.Order.{event_cmp}
 use Rattle.dn_model.specs.Network.{Network, Family, injected, is_at, routers, sent, sent_to, state}
-use Rattle.dn_model.specs.Settled.{IsFeedOf, IsPrefixOf, IsSettled, IsSettledBelow, below, due, lockstep, rows, shown_rows, is_cut}
+use Rattle.dn_model.specs.Settled.{AreSame, IsPrefixOf, IsSettled, IsSettledBelow, below, due, lockstep, rows, shown_rows, is_cut}
 use Rattle.dn_model.proofs.Rows.{joined_same}
-use Rattle.dn_model.proofs.Waves.{lockstep_settled, lockstep_settled_below, no_other_settled, no_other_settled_below}
-use Rattle.dn_world.specs.World.{part, dones, is_same, is_quiet}
-use Rattle.dn_world.specs.Runs.{Continues, IsPlayable, world, committed, is_cut_off}
-use Rattle.dn_world.proofs.Cases.{playable_from}
-use Rattle.dn_world.proofs.Sound.{IsSound, world_sound}
-use Rattle.dn_world.proofs.Prefix.{committed_front, committed_at_front, committed_state_is, cut_off_is_cut, cut_committed}
-use Rattle.dn_world.proofs.Unsent.{no_unsent, all_sent_as_often}
-use Rattle.dn_world.proofs.Quiet.{no_voids, quiet_lockstep, quiet_committed, quiet_cut}
+use Rattle.dn_world.specs.World.{World, part, dones, horizon, is_same, is_quiet}
+use Rattle.dn_world.specs.Runs.{Continues, world, committed, committed_at, committed_state, is_cut_off}
 use Rattle.dn_fabric.specs.Fabrics.{Fabric, IsReached}
 use Rattle.dn_fabric.specs.Promises.{IsFinal, AreSent, IsAtRest}
 
@@ -47,55 +41,76 @@ module _ {S : Type 0} (net : Network S) (feed : List External) (f g : Family) (s
         complete = λ r l. subst (λ es. IsPermutation (below bound es) (below bound (f r))) (sym (dues r)) (subst (λ es. IsPermutation (below bound (due net feed (λ s. below bound (g s)) r)) (below bound es)) (sym (same r l)) (a.complete r l));
       }
 
-module _ {S : Type 0} (net : Network S) (f : Fabric S) (rules : IsHeading net.header) (reached : IsReached net f) where
-  playable : IsPlayable net.header
-  playable = playable_from net.header rules
+-- the world that the journal reaches is the fabric's, and rows and cut are those of that world
+module _ {S : Type 0} (net : Network S) (f : Fabric S) (reached : IsReached net f) where
+  pub goes_on_there : (feed : List External) → Continues feed f.live.world → Continues feed (world net f.journal)
+  goes_on_there feed goes = subst (Continues feed) (sym reached.world) goes
 
-  sound : IsSound net f.live.world
-  sound = subst (IsSound net) reached.world (world_sound net playable f.journal reached.legal)
+  pub cut_there : f.live.cut ≡ true → is_cut_off net (world net f.journal) ≡ true
+  cut_there cut = ap (is_cut_off net) reached.world ∙ sym reached.cut ∙ cut
 
-  pub rows_final : (feed : List External) → IsFeedOf net.header feed → Continues feed f.live.world → IsFinal net f.live feed
-  rows_final feed fed goes = record {
-    rows = subst (λ es. IsPrefixOf es (rows net feed)) (sym reached.rows) (committed_front net feed playable fed f.live.world sound goes);
-    of_router = λ r l. subst (λ es. IsPrefixOf (filter (is_at r) es) (lockstep net feed r)) (sym reached.rows) (committed_at_front net feed playable fed f.live.world sound goes r l);
-    state = λ r l. subst (λ es. state net r (filter (is_at r) es) ≡ state net r (take (length (filter (is_at r) es)) (lockstep net feed r))) (sym reached.rows) (committed_state_is net feed playable fed f.live.world sound goes r l);
+  pub quiet_there : is_quiet f.live.world ≡ true → is_quiet (world net f.journal) ≡ true
+  quiet_there quiet = ap is_quiet reached.world ∙ quiet
+
+  rows_there : committed net (world net f.journal) ≡ f.live.rows
+  rows_there = ap (committed net) reached.world ∙ sym reached.rows
+
+  pub rows_final : (feed : List External) → IsPrefixOf (committed net (world net f.journal)) (rows net feed) → ((r : ℕ) → r < routers net → IsPrefixOf (committed_at net (world net f.journal) r) (lockstep net feed r)) → ((r : ℕ) → r < routers net → committed_state net (world net f.journal) r ≡ state net r (take (length (committed_at net (world net f.journal) r)) (lockstep net feed r))) → IsFinal net f.live feed
+  rows_final feed all own at = record {
+    rows = subst (λ es. IsPrefixOf es (rows net feed)) rows_there all;
+    of_router = λ r l. subst (λ es. IsPrefixOf (filter (is_at r) es) (lockstep net feed r)) rows_there (own r l);
+    state = λ r l. subst (λ es. state net r (filter (is_at r) es) ≡ state net r (take (length (filter (is_at r) es)) (lockstep net feed r))) rows_there (at r l);
   }
 
-  pub cut_final : (feed : List External) → IsFeedOf net.header feed → Continues feed f.live.world → f.live.cut ≡ true → is_cut net feed ≡ true
-  cut_final feed fed goes cut = cut_off_is_cut net feed playable fed f.live.world sound goes (sym reached.cut ∙ cut)
+  pub cut_shown : (feed : List External) → committed net (world net f.journal) ≡ shown_rows net feed → f.live.rows ≡ shown_rows net feed
+  cut_shown feed shown = sym rows_there ∙ shown
 
-  pub cut_shown : (feed : List External) → IsFeedOf net.header feed → Continues feed f.live.world → f.live.cut ≡ true → f.live.rows ≡ shown_rows net feed
-  cut_shown feed fed goes cut = reached.rows ∙ cut_committed net feed playable fed f.live.world sound goes (sym reached.cut ∙ cut)
+  uncut_there : f.live.cut ≡ false → is_cut_off net (world net f.journal) ≡ false
+  uncut_there uncut = ap (is_cut_off net) reached.world ∙ sym reached.cut ∙ uncut
 
-  rows_of_run : f.live.rows ≡ committed net (world net f.journal)
-  rows_of_run = reached.rows ∙ ap (committed net) (sym reached.world)
+  -- a message of the world's committed rows was sent at least as often, and where no row is cut off, just as often
+  abbrev pub Enough : Event → Type 0
+  Enough e = count_by (is_same e) (committed net (world net f.journal)) ≤ count_by (is_same e) (sent net e.key.origin (committed_at net (world net f.journal) e.key.origin))
 
-  cut_of_run : f.live.cut ≡ is_cut_off net (world net f.journal)
-  cut_of_run = reached.cut ∙ ap (is_cut_off net) (sym reached.world)
+  abbrev pub Just : Event → Type 0
+  Just e = is_cut_off net (world net f.journal) ≡ false → 0 < count_by (is_same e) (committed net (world net f.journal)) → count_by (is_same e) (committed net (world net f.journal)) ≡ count_by (is_same e) (sent net e.key.origin (committed_at net (world net f.journal) e.key.origin))
 
-  pub rows_sent : AreSent net f.live
-  rows_sent = record {
-    enough = λ e message. subst (λ es. count_by (is_same e) es ≤ count_by (is_same e) (sent net e.key.origin (filter (is_at e.key.origin) es))) (sym rows_of_run) (no_unsent net playable f.journal reached.legal e message);
+  pub rows_sent : ((e : Event) → e.key.class ≡ 2 → Enough e) → ((e : Event) → e.key.class ≡ 2 → Just e) → AreSent net f.live
+  rows_sent enough just = record {
+    enough = λ e message. subst (λ es. count_by (is_same e) es ≤ count_by (is_same e) (sent net e.key.origin (filter (is_at e.key.origin) es))) rows_there (enough e message);
     just = λ e message uncut some.
-        subst (λ es. count_by (is_same e) es ≡ count_by (is_same e) (sent net e.key.origin (filter (is_at e.key.origin) es))) (sym rows_of_run)
-        (all_sent_as_often net playable f.journal reached.legal e message (sym cut_of_run ∙ uncut) (subst (λ es. 0 < count_by (is_same e) es) rows_of_run some));
+        subst (λ es. count_by (is_same e) es ≡ count_by (is_same e) (sent net e.key.origin (filter (is_at e.key.origin) es))) rows_there
+        (just e message (uncut_there uncut) (subst (λ es. 0 < count_by (is_same e) es) (sym rows_there) some));
   }
 
-  pub rest_is : is_quiet f.live.world ≡ true → IsAtRest net f.live
-  rest_is quiet =
-      let same : (r : ℕ) → r < routers net → dones f.live.world r ≡ lockstep net f.live.world.accepted r = quiet_lockstep net playable f.live.world sound quiet in
+-- a world at rest, with what is known of its run
+pub record Rests {S : Type 0} (net : Network S) (w : World) : Type 0 where
+  pub voids : (r : ℕ) → r < routers net → (part w r).voids ≡ []
+  pub done : (r : ℕ) → r < routers net → (part w r).done ≡ lockstep net w.accepted r
+  pub rows : w.boundary ≡ horizon net.header w → committed net w ≡ shown_rows net w.accepted
+  pub cut : w.boundary ≡ horizon net.header w → is_cut_off net w ≡ is_cut net w.accepted
+  pub settled : IsSettled net w.accepted (lockstep net w.accepted)
+  pub settled_below : (bound : Key) → IsSettledBelow net w.accepted bound (lockstep net w.accepted)
+  pub no_other : (g : Family) → IsSettled net w.accepted g → AreSame net w.accepted g (lockstep net w.accepted)
+  pub no_other_below : (bound : Key) (g : Family) → IsSettledBelow net w.accepted bound g → (r : ℕ) → r < routers net → below bound (g r) ≡ below bound (lockstep net w.accepted r)
+
+module _ {S : Type 0} (net : Network S) (f : Fabric S) (reached : IsReached net f) where
+  pub rest_is : Rests net (world net f.journal) → IsAtRest net f.live
+  rest_is rests =
+      let a : Rests net f.live.world = subst (Rests net) reached.world rests in
+      let accepted = f.live.world.accepted in
       record {
-        voids = no_voids net playable f.live.world sound quiet;
-        done = same;
-        settled = settled_same net f.live.world.accepted (dones f.live.world) (lockstep net f.live.world.accepted) same (lockstep_settled net f.live.world.accepted playable.timed sound.accepted);
-        settled_below = λ bound. settled_below_same net f.live.world.accepted (dones f.live.world) (lockstep net f.live.world.accepted) same bound (lockstep_settled_below net f.live.world.accepted playable.timed sound.accepted bound);
-        no_other = λ g a r l. no_other_settled net f.live.world.accepted playable.timed sound.accepted g a r l ∙ sym (same r l);
-        no_other_below = λ bound g a r l. no_other_settled_below net f.live.world.accepted playable.timed sound.accepted bound g a r l ∙ ap (below bound) (sym (same r l));
-        rows = λ e. reached.rows ∙ quiet_committed net playable f.live.world sound quiet e;
-        cut = λ e. reached.cut ∙ quiet_cut net playable f.live.world sound quiet e;
+        voids = a.voids;
+        done = a.done;
+        settled = settled_same net accepted (dones f.live.world) (lockstep net accepted) a.done a.settled;
+        settled_below = λ bound. settled_below_same net accepted (dones f.live.world) (lockstep net accepted) a.done bound (a.settled_below bound);
+        no_other = λ g b r l. a.no_other g b r l ∙ sym (a.done r l);
+        no_other_below = λ bound g b r l. a.no_other_below bound g b r l ∙ ap (below bound) (sym (a.done r l));
+        rows = λ e. reached.rows ∙ a.rows e;
+        cut = λ e. reached.cut ∙ a.cut e;
       }
 
-  -- a router's node then is the one after its lockstep list
-  pub node_at_rest : is_quiet f.live.world ≡ true → (r : ℕ) → r < length net.header.routers → state net r (part f.live.world r).done ≡ state net r (lockstep net f.live.world.accepted r)
-  unfolding routers
-  node_at_rest quiet r l = ap (state net r) (quiet_lockstep net playable f.live.world sound quiet r l)
+-- a router of the header is one of the network
+pub at_router : {S : Type 0} (net : Network S) (r : ℕ) → r < length net.header.routers → r < routers net
+unfolding routers
+at_router net r l = l

@@ -1,12 +1,13 @@
 -- The steps that the calls of a fabric take.
-use Rattle.std.proofs.Common.{◌≡◌, ℕ, ◌+◌, ◌<◌, ◌≤◌, Bool, true, false, ◌||◌, List, [], ◌∷◌, ◌++◌, length, take, refl, sym, ap, ◌∙◌, subst, arith, set, length-take, length-append}
-use Rattle.std.specs.Prelude.{nat_lt, slice_get, if◌then◌else◌, Result, Ok, IfOk, is_ok}
+use Rattle.std.proofs.Common.{◌≡◌, ℕ, ◌+◌, ◌<◌, ◌≤◌, Bool, true, false, List, [], ◌∷◌, ◌++◌, length, take, refl, sym, ap, ◌∙◌, subst, arith, set, length-take, length-append}
+use Rattle.std.specs.Prelude.{slice_get, if◌then◌else◌, Result, Ok, IfOk, is_ok}
 use Rattle.std.proofs.Math.ListN.{length-set}
 use Rattle.dn_guest.specs.Meaning.{Meaning}
 use Rattle.dn_model.specs.declared.feed.External.{External}
 use Rattle.dn_model.specs.Cases.{Heading}
 use Rattle.dn_model.specs.Network.{Network}
 use Rattle.dn_model.specs.Settled.{row_limit}
+use Rattle.dn_world.specs.declared.entry.Entry.TheVariants.{Did}
 use Rattle.dn_world.specs.declared.step.Step.{Step}
 use Rattle.dn_world.specs.declared.step.Step.TheVariants.{Beacon, Inject, Close, Deliver, Handle, RollBack, Commit}
 use Rattle.dn_world.specs.World.{part, is_behind, is_ready}
@@ -14,10 +15,9 @@ use Rattle.dn_world.specs.Steps.{is_enabled, is_injectable, after, beacon, injec
 use Rattle.std.specs.List.{AllByRecursion}
 use Rattle.dn_world.specs.Runs.{IsPast, settled_rows, fresh_rows}
 use Rattle.dn_world.specs.Logs.{log_of}
-use Rattle.dn_world.proofs.LogLists.{log-push}
 use Rattle.dn_fabric.specs.Fabrics.{Live, Fabric, HasStepped, HasNoted, HasStopped, live_after, stepped, with_lease}
 use Rattle.dn_fabric.specs.Holds.{IsFabric}
-use Rattle.dn_fabric.proofs.Stepping.{shown_front, live_kept, live_grown, taken_off_late}
+use Rattle.dn_fabric.proofs.Stepping.{StepLaws, live_grown, live_stays, live_grows, shown_front}
 use Rattle.dn_fabric.proofs.Calls.{OfEach, the_network, leased_holds, taken, taken_holds, halted_over}
 use Rattle.dn_fabric.proofs.Enabled.{beacon_enabled, inject_enabled, close_enabled, deliver_enabled, handle_enabled, roll_back_enabled, commit_enabled, beacon_is, inject_is, close_is, deliver_is, LeavesBoundary, beacon_leaves, inject_leaves, close_leaves, deliver_leaves, handle_leaves, roll_back_leaves}
 
@@ -33,36 +33,31 @@ pub record IsTaken {S : Type 0} (guests : Meaning S) (f : Fabric S) (s : Step) (
 
 -- what a Commit leaves
 abbrev pub committed_live : {S : Type 0} → Network S → Live S → Live S
-committed_live net l =
-    record l {
-      world = after net l.world Commit;
-      rows = take row_limit (l.rows ++ fresh_rows net l.world.boundary (after net l.world Commit));
-      cut = l.cut || nat_lt row_limit (length l.rows + length (fresh_rows net l.world.boundary (after net l.world Commit)));
-    }
+committed_live net l = live_grown net l Commit
 
-module _ {S : Type 0} (guests : Meaning S) (f : Fabric S) (holds : IsFabric guests f) (running : f.live.stopped ≡ false) where
+module _ {S : Type 0} (guests : Meaning S) (laws : StepLaws S) (f : Fabric S) (holds : IsFabric guests f) (running : f.live.stopped ≡ false) where
   all_taken : (s : Step) (l : Live S) (j : List Step) → OfEach guests f (λ net. is_enabled net f.live.world s ≡ true) → OfEach guests f (λ net. l ≡ live_after net f.live s) → j ≡ f.journal ++ s ∷ [] → IsTaken guests f s (fab l j f.leased)
   all_taken s l j enabled is noted =
       let whole : OfEach guests f (λ net. fab l j f.leased ≡ stepped net f s) = λ net of i. fab (is net of i) (noted i) f.leased in
       let found = the_network guests f holds in
       let stopped : l.stopped ≡ f.live.stopped = ap (λ (x : Live S). x.stopped) (is found.0 found.1) in
       record {
-        holds = taken_holds guests f (fab l j f.leased) s holds running enabled whole;
-        stepped = taken guests f (fab l j f.leased) s holds running enabled whole;
+        holds = taken_holds guests laws f (fab l j f.leased) s holds running enabled whole;
+        stepped = taken guests laws f (fab l j f.leased) s holds running enabled whole;
         noted = record {
           journal = noted;
           header = ap (λ (x : Live S). x.header) (is found.0 found.1);
           openings = ap (λ (x : Live S). x.openings) (is found.0 found.1);
           leased = refl;
           stopped = stopped;
-          log = (λ i. log_of (noted i) (stopped i)) ∙ log-push f.journal f.live.stopped s running;
+          log = (λ i. log_of (noted i) ((stopped ∙ running) i)) ∙ laws.log f.journal s ∙ ap (λ b. log_of f.journal b ++ Did s ∷ []) (sym running);
         };
       }
 
   -- a step that leaves the boundary where it is
   kept_taken : (s : Step) (l : Live S) (j : List Step) → OfEach guests f (λ net. is_enabled net f.live.world s ≡ true) → OfEach guests f (λ net. LeavesBoundary net f.live.world s) → OfEach guests f (λ net. l ≡ record f.live { world = after net f.live.world s }) → j ≡ f.journal ++ s ∷ [] → IsTaken guests f s (fab l j f.leased)
   kept_taken s l j enabled stays is noted =
-      all_taken s l j enabled (λ net of. is net of ∙ live_kept net f s (holds.reached net of running) (enabled net of) (stays net of)) noted
+      all_taken s l j enabled (λ net of. is net of ∙ live_stays net f s (holds.reached net of running) (laws.stays net f s (holds.reached net of running) (enabled net of) (stays net of))) noted
 
   pub beacon_taken : (l : Live S) (j : List Step) → f.live.world.closed ≡ false → f.live.world.floor + 1 < f.live.header.groups → l ≡ record f.live { world = beacon f.live.world } → j ≡ f.journal ++ Beacon ∷ [] → IsTaken guests f Beacon (fab l j f.leased)
   beacon_taken l j unclosed left is noted =
@@ -107,12 +102,12 @@ module _ {S : Type 0} (guests : Meaning S) (f : Fabric S) (holds : IsFabric gues
   pub commit_taken : (l : Live S) (j : List Step) → OfEach guests f (λ net. l ≡ committed_live net f.live) → j ≡ f.journal ++ Commit ∷ [] → IsTaken guests f Commit (fab l j f.leased)
   commit_taken l j is noted =
       all_taken Commit l j (λ net of. commit_enabled net f.live.world)
-      (λ net of. is net of ∙ live_grown net f Commit (holds.reached net of running) (commit_enabled net f.live.world)) noted
+      (λ net of. is net of ∙ live_grows net f Commit (holds.reached net of running) (laws.grows net f Commit (holds.reached net of running) (commit_enabled net f.live.world))) noted
 
   -- a rollback takes off nothing that was committed
   pub late_taken : (r : ℕ) → r < length f.live.header.routers → is_behind (part f.live.world r) ≡ true → OfEach guests f (λ net. AllByRecursion (λ e. IsPast f.live.world.boundary e.key) (taken_off net (part f.live.world r)))
   late_taken r inside behind net of =
-      taken_off_late net f r (holds.reached net of running)
+      laws.taken_off net f r (holds.reached net of running)
       (roll_back_enabled net f.live.world r (subst (λ (h : Heading). r < length h.routers) (sym of.header) inside) behind)
 
   -- a step whose note found no memory
@@ -135,10 +130,10 @@ module _ {S : Type 0} (guests : Meaning S) (f : Fabric S) (holds : IsFabric gues
       omega (arith, now, few, a, b, d)
 
 -- the outcome of an order was applied, and its lease has ended
-pub finish_taken : {S : Type 0} (guests : Meaning S) (f : Fabric S) → IsFabric guests f → f.live.stopped ≡ false → (r : ℕ) (l : Live S) (j : List Step) (leased : List Bool) → r < length f.live.header.routers → is_ready (part f.live.world r) ≡ true → leased ≡ set f.leased r false → OfEach guests f (λ net. l ≡ record f.live { world = after net f.live.world (Handle r) }) → j ≡ f.journal ++ Handle r ∷ [] → IsTaken guests (with_lease f r false) (Handle r) (fab l j leased)
-finish_taken guests f holds running r l j leased inside ready ends is noted =
+pub finish_taken : {S : Type 0} (guests : Meaning S) (laws : StepLaws S) (f : Fabric S) → IsFabric guests f → f.live.stopped ≡ false → (r : ℕ) (l : Live S) (j : List Step) (leased : List Bool) → r < length f.live.header.routers → is_ready (part f.live.world r) ≡ true → leased ≡ set f.leased r false → OfEach guests f (λ net. l ≡ record f.live { world = after net f.live.world (Handle r) }) → j ≡ f.journal ++ Handle r ∷ [] → IsTaken guests (with_lease f r false) (Handle r) (fab l j leased)
+finish_taken guests laws f holds running r l j leased inside ready ends is noted =
     subst (λ ls. IsTaken guests (with_lease f r false) (Handle r) (fab l j ls)) (sym ends)
-    (handle_taken guests (with_lease f r false) (leased_holds guests f (set f.leased r false) holds (length-set f.leased r false)) running r l j inside ready is noted)
+    (handle_taken guests laws (with_lease f r false) (leased_holds guests f (set f.leased r false) holds (length-set f.leased r false)) running r l j inside ready is noted)
 
 -- the outcome of an order was stale, and its lease has ended
 pub stale_holds : {S : Type 0} (guests : Meaning S) (f : Fabric S) → IsFabric guests f → (r : ℕ) (l : Live S) (leased : List Bool) → l ≡ f.live → leased ≡ set f.leased r false → IsFabric guests (fab l f.journal leased)

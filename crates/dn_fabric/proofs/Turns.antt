@@ -1,6 +1,7 @@
 -- A router's own steps are those of the network's world.
 use Rattle.std.proofs.Common.{◌≡◌, ℕ, zero, suc, ◌<◌, Bool, true, false, not, List, [], ◌∷◌, ◌++◌, length, get_or, set, map, refl, sym, ap, ◌∙◌, subst}
 use Rattle.std.specs.List.{AllByRecursion}
+use Rattle.std.proofs.lemmas.Bool.{and_parts, not-true}
 use Rattle.dn_guest.specs.Meaning.{Meaning}
 use Rattle.dn_model.specs.declared.event.Event.{Event}
 use Rattle.dn_model.specs.declared.feed.External.{External}
@@ -16,7 +17,6 @@ use Rattle.dn_world.specs.declared.packet.Packet.{Packet}
 use Rattle.dn_world.specs.declared.step.Step.TheVariants.{Handle, RollBack}
 use Rattle.dn_world.specs.World.{Part, World, part, is_empty, is_ready, is_behind}
 use Rattle.dn_world.specs.Steps.{after, emits, handle, kept, roll_back, signed, taken_off, is_wrong}
-use Rattle.dn_world.proofs.Balance.{both_true, not_false}
 use Rattle.dn_world.proofs.Parts.{all_since}
 use Rattle.dn_fabric.specs.Fabrics.{Live, IsNetworkOf, router_of}
 use Rattle.dn_fabric.specs.Holds.{IsWhole}
@@ -24,7 +24,7 @@ use Rattle.dn_fabric.proofs.Whole.{router_is, guests_set, parts_set}
 
 has_todo : (p : Part) → is_ready p ≡ true → is_empty p.todo ≡ false
 unfolding is_ready
-has_todo p h = not_false (is_empty p.todo) (both_true (not (is_behind p)) (not (is_empty p.todo)) h).1
+has_todo p h = not-true (is_empty p.todo) (and_parts (not (is_behind p)) (not (is_empty p.todo)) h).1
 
 module _ {S : Type 0} (net : Network S) (w : World) (i : ℕ) where
   -- ---- the world's step, by what the network's router emits

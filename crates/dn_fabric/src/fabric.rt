@@ -57,6 +57,9 @@ impl<G: Guest> Fabric<G> {
         requires { length guests.items ≡ length header.routers }
         ensures { IfOk result (λ made. made ≡ opening_fabric header guests.items) }
     {
+        dn_world::laws::before_the_first_step::<G>();
+        dn_world::laws::equation::<G>();
+        dn_world::laws::boundary::<G>();
         let mut leased = Vec::new(alloc);
         leased.resize(header.routers.as_slice().len(), false)?;
         let world = World::new(alloc, header, guests)?;

@@ -42,6 +42,7 @@ impl<G: Guest> Fabric<G> {
         ensures noted { IfOk result (λ finished. HasEnded self.old outcome finished self.new) }
         ensures err { OnErr result (HasStopped self.old self.new) }
     {
+        crate::laws::one_more_step::<G>();
         let router = outcome.router();
         match self.world.apply(outcome)? {
             Finished::Applied => {

@@ -19,7 +19,7 @@
 //! | `world.rt` | the layer below: routers and flight, without journal and leases |
 //! | `coming.rt`, `handling.rt`, `committing.rt` | its steps: what comes to routers, what routers do, the horizon and committing |
 //! | `flight.rt` | the packets between routers |
-//! | `laws.rt` | a network of each header exists; what a stop leaves of the log |
+//! | `laws.rt` | a network of each header exists; what a stop leaves of the log; what every fabric promises, and what a step of it may count on |
 //!
 //! The definitions: `specs/Fabrics.antt` (a fabric as plain data, and what each call makes of it),
 //! `specs/Promises.antt` (what is promised of its rows and of its end), `specs/Driven.antt` (where every drive

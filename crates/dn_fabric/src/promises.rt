@@ -25,6 +25,7 @@ impl<G: Guest> Fabric<G> {
         ensures prefix { (net : Network G) (feed : List External) → IsNetworkOf net G.meaning self.now.live.header self.now.live.openings → self.now.live.stopped ≡ false → IsFeedOf net.header feed → Continues feed self.now.live.world → IsFinal net self.now.live feed }
         ensures sent { (net : Network G) → IsNetworkOf net G.meaning self.now.live.header self.now.live.openings → self.now.live.stopped ≡ false → AreSent net self.now.live }
     {
+        crate::laws::reached_fabrics::<G>();
         &self.world.rows()[place as usize..]
     }
 
@@ -36,6 +37,7 @@ impl<G: Guest> Fabric<G> {
         ensures prefix { (net : Network G) (feed : List External) → IsNetworkOf net G.meaning self.now.live.header self.now.live.openings → self.now.live.stopped ≡ false → IsFeedOf net.header feed → Continues feed self.now.live.world → result ≡ true → is_cut net feed ≡ true }
         ensures shown { (net : Network G) (feed : List External) → IsNetworkOf net G.meaning self.now.live.header self.now.live.openings → self.now.live.stopped ≡ false → IsFeedOf net.header feed → Continues feed self.now.live.world → result ≡ true → self.now.live.rows ≡ shown_rows net feed }
     {
+        crate::laws::reached_fabrics::<G>();
         self.world.is_cut()
     }
 
@@ -45,6 +47,7 @@ impl<G: Guest> Fabric<G> {
         ensures quiet { result ≡ is_quiet self.now.live.world }
         ensures at_rest { (net : Network G) → IsNetworkOf net G.meaning self.now.live.header self.now.live.openings → self.now.live.stopped ≡ false → result ≡ true → IsAtRest net self.now.live }
     {
+        crate::laws::reached_fabrics::<G>();
         if !self.closed() || self.flying() > 0 {
             return false;
         }
@@ -57,6 +60,8 @@ impl<G: Guest> Fabric<G> {
         ensures handled { (net : Network G) → IsNetworkOf net G.meaning self.now.live.header self.now.live.openings → result.now ≡ state net router (part self.now.live.world router).done }
         ensures end { (net : Network G) → IsNetworkOf net G.meaning self.now.live.header self.now.live.openings → self.now.live.stopped ≡ false → is_quiet self.now.live.world ≡ true → result.now ≡ state net router (lockstep net self.now.live.world.accepted router) }
     {
+        dn_router::laws::of_a_network::<G>();
+        crate::laws::reached_fabrics::<G>();
         self.world.router(router).node()
     }
 }

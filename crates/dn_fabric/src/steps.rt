@@ -27,6 +27,7 @@ impl<G: Guest> Fabric<G> {
         ensures noted { OnOk result (HasNoted self.old Beacon self.new) }
         ensures err { OnErr result (HasStopped self.old self.new) }
     {
+        crate::laws::one_more_step::<G>();
         self.world.beacon()?;
         note(&mut self.world, &mut self.journal, Step::Beacon)?;
         Ok(())
@@ -44,6 +45,7 @@ impl<G: Guest> Fabric<G> {
         ensures noted { OnOk result (HasNoted self.old (Inject (record { group = self.old.live.world.floor; router = router; input = input })) self.new) }
         ensures err { OnErr result (HasStopped self.old self.new) }
     {
+        crate::laws::one_more_step::<G>();
         let external = External {
             group: self.world.floor(),
             router,
@@ -65,6 +67,7 @@ impl<G: Guest> Fabric<G> {
         ensures noted { OnOk result (HasNoted self.old Close self.new) }
         ensures err { OnErr result (HasStopped self.old self.new) }
     {
+        crate::laws::one_more_step::<G>();
         self.world.close();
         note(&mut self.world, &mut self.journal, Step::Close)?;
         Ok(())
@@ -78,6 +81,7 @@ impl<G: Guest> Fabric<G> {
         ensures noted { OnOk result (HasNoted self.old (Deliver place) self.new) }
         ensures err { OnErr result (HasStopped self.old self.new) }
     {
+        crate::laws::one_more_step::<G>();
         self.world.deliver(place)?;
         note(&mut self.world, &mut self.journal, Step::Deliver(place))?;
         Ok(())
@@ -94,6 +98,7 @@ impl<G: Guest> Fabric<G> {
         ensures late { (net : Network G) → IsNetworkOf net G.meaning self.old.live.header self.old.live.openings → AllByRecursion (λ e. IsPast self.old.live.world.boundary e.key) (taken_off net (part self.old.live.world router)) }
         ensures err { OnErr result (HasStopped self.old self.new) }
     {
+        crate::laws::one_more_step::<G>();
         self.world.roll_back(router)?;
         note(&mut self.world, &mut self.journal, Step::RollBack(router))?;
         Ok(())
@@ -107,6 +112,8 @@ impl<G: Guest> Fabric<G> {
         ensures answer { IfOk result (λ moved. HasMoved self.old moved self.new) }
         ensures err { OnErr result (HasStopped self.old self.new) }
     {
+        crate::laws::reached_fabrics::<G>();
+        crate::laws::one_more_step::<G>();
         let before = self.world.rows().len() as u64;
         self.world.commit()?;
         note(&mut self.world, &mut self.journal, Step::Commit)?;

@@ -53,6 +53,7 @@ impl<G: Guest> Fabric<G> {
         ensures has { HasWork self.now result }
         ensures only { (work : Work) → HasWork self.now work → work ≡ result }
     {
+        crate::laws::reached_fabrics::<G>();
         if self.flying() > 0 {
             return Work::Deliver(0);
         }

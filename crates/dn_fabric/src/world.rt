@@ -220,6 +220,7 @@ fn opening_router<G: Guest>(
         header.timing(),
         node,
     )?;
+    dn_router::laws::nothing_before_zeros();
     router.arrive(true, Event::tick(0, number))?;
     Ok(router)
 }

@@ -1,3 +1,4 @@
 pub mod StepLaws
 pub mod JournalLaws
 pub mod TextLaws
+pub mod Legal

@@ -1,11 +1,13 @@
-//! Laws over all journals.
+//! Laws over all journals. Each is the contract of a function that does nothing; whoever needs one calls it.
 
 ghost use Rattle.std.specs.Prelude.{◌≡◌, ◌<◌, ◌^◌, ℕ, List, length};
 ghost use Rattle.std.specs.List.{AllByRecursion};
 ghost use Rattle.dn_model.specs.Cases.{Heading, IsHeading};
+ghost use Rattle.dn_model.specs.Network.{Network};
 ghost use Rattle.dn_text.specs.Lines.{lines};
 ghost use Rattle.dn_world.specs.declared.step.Step.{Step};
-ghost use Rattle.dn_journal.specs.Spelling.{IsStep, journal_text};
+ghost use Rattle.dn_world.specs.Runs.{IsLegal};
+ghost use Rattle.dn_journal.specs.Spelling.{IsOf, IsStep, journal_text};
 ghost use Rattle.dn_journal.specs.Reading.{IsJournal, IsFirstBad};
 
 /// What is written of steps that a journal may have is the journal of those steps.
@@ -26,4 +28,11 @@ pub fn steps_have_one_text()
 /// A text that is no journal has one first bad line.
 pub fn a_text_has_one_first_bad_line()
     ensures { (h : Heading) (ls : List (List ℕ)) (m n : ℕ) → IsFirstBad h ls m → IsFirstBad h ls n → m ≡ n }
+{}
+
+/// The steps of a legal run of a network are steps that a journal of its header may have: their routers are
+/// routers of the header, and what they inject is of a group of the header and may be injected.
+pub fn legal_steps_may_stand_in_a_journal<S>()
+    ensures { (net : Network S) (steps : List Step) → IsHeading net.header → IsLegal net steps
+        → AllByRecursion (IsOf net.header) steps }
 {}

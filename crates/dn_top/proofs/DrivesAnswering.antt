@@ -1,17 +1,16 @@
 -- What `rerun` and `shake` answer, from their parts.
 use Rattle.std.proofs.Common.{◌≡◌, ℕ, ◌<◌, inl, inr, true, false, List, length, Option, Some, None, refl, sym, subst}
 use Rattle.std.specs.Prelude.{IfSome}
-use Rattle.dn_model.specs.Cases.{Heading, Recording, IsHeading, IsRecording}
+use Rattle.dn_model.specs.Cases.{Heading, Recording}
 use Rattle.dn_world.specs.declared.step.Step.{Step}
 use Rattle.dn_drive.specs.declared.ended.Ended.{Ended}
-use Rattle.dn_journal.proofs.JournalLaws.{one_journal}
+use Rattle.dn_drive.specs.declared.ended.Ended.TheVariants as ended
 use Rattle.dn_top.specs.declared.status.Status.{Status}
 use Rattle.dn_top.specs.declared.status.Status.TheVariants as status
 use Rattle.dn_top.specs.declared.words.Schedule.{Schedule}
-use Rattle.dn_top.specs.Promises.{HasCase, HasJournal, IsCaseRefusal, AnswersRerun, AnswersShake, outcome_of, steps_of, written, shaken, journal_lines, input_limit, is_of_reading, is_of_case}
+use Rattle.dn_top.specs.Promises.{EndsCut, EndsWhole, HasCase, HasJournal, IsCaseRefusal, IsCutOnTheWay, AnswersRerun, AnswersShake, outcome_of, steps_of, written, shaken, journal_lines, input_limit, is_of_reading, is_of_case}
 use Rattle.dn_top.specs.Drives.{Drives, AreOneJournal, HasOneJournal, is_of_steps, is_illegal}
 use Rattle.dn_top.proofs.Completing.{same_case}
-use Rattle.dn_top.proofs.Ends.{ends_whole, cut_on_the_way, schedule_ends_cut}
 
 -- ---- refusals of reading
 
@@ -73,39 +72,39 @@ case_refused_shake w input status.Usage told refused = absurd refused
 
 -- ---- what steps come to
 
-pub case_rerun : (input : List ℕ) (c : Recording) (size : ℕ) (steps : List Step) (s : Status) (old now : Option (List ℕ)) → IsRecording c → HasJournal input c size steps → Drives c (outcome_of c steps) (written c) s old now → AnswersRerun s input old now
-case_rerun input c size steps status.Ok old now rules has drives = record { comes = record { case = c; size = size; steps = steps; has = has; is = drives.0 }; ends = ends_whole c steps rules drives.0; is = drives.1; text = drives.2 }
-case_rerun input c size steps status.Cut old now rules has drives = record { comes = record { case = c; size = size; steps = steps; has = has; is = drives.0 }; ends = cut_on_the_way c steps drives.0; is = drives.1; text = drives.2 }
-case_rerun input c size steps (status.Illegal i) old now rules has drives = (record { case = c; size = size; steps = steps; has = has; is = drives.0 }, drives.1)
-case_rerun input c size steps status.Open old now rules has drives = (record { case = c; size = size; steps = steps; has = has; is = drives.0 }, drives.1)
-case_rerun input c size steps (status.BadCase f) old now rules has drives = absurd drives
-case_rerun input c size steps status.TooBig old now rules has drives = absurd drives
-case_rerun input c size steps status.ReadFault old now rules has drives = absurd drives
-case_rerun input c size steps status.WriteFault old now rules has drives = record { case = c; size = size; steps = steps; has = has; is = drives.0; front = drives.1 }
-case_rerun input c size steps status.NoMemory old now rules has drives =
+pub case_rerun : (input : List ℕ) (c : Recording) (size : ℕ) (steps : List Step) (s : Status) (old now : Option (List ℕ)) → (outcome_of c steps ≡ ended.Whole → EndsWhole c steps) × (outcome_of c steps ≡ ended.Cut → IsCutOnTheWay c steps) → HasJournal input c size steps → Drives c (outcome_of c steps) (written c) s old now → AnswersRerun s input old now
+case_rerun input c size steps status.Ok old now ends has drives = record { comes = record { case = c; size = size; steps = steps; has = has; is = drives.0 }; ends = ends.0 drives.0; is = drives.1; text = drives.2 }
+case_rerun input c size steps status.Cut old now ends has drives = record { comes = record { case = c; size = size; steps = steps; has = has; is = drives.0 }; ends = ends.1 drives.0; is = drives.1; text = drives.2 }
+case_rerun input c size steps (status.Illegal i) old now ends has drives = (record { case = c; size = size; steps = steps; has = has; is = drives.0 }, drives.1)
+case_rerun input c size steps status.Open old now ends has drives = (record { case = c; size = size; steps = steps; has = has; is = drives.0 }, drives.1)
+case_rerun input c size steps (status.BadCase f) old now ends has drives = absurd drives
+case_rerun input c size steps status.TooBig old now ends has drives = absurd drives
+case_rerun input c size steps status.ReadFault old now ends has drives = absurd drives
+case_rerun input c size steps status.WriteFault old now ends has drives = record { case = c; size = size; steps = steps; has = has; is = drives.0; front = drives.1 }
+case_rerun input c size steps status.NoMemory old now ends has drives =
     elim drives [
       | inl same ↦ inl same
       | inr begun ↦ inr (record { case = c; size = size; steps = steps; has = has; is = begun.0; front = begun.1 })
     ]
-case_rerun input c size steps (status.Differs p) old now rules has drives = absurd drives
-case_rerun input c size steps status.Usage old now rules has drives = absurd drives
+case_rerun input c size steps (status.Differs p) old now ends has drives = absurd drives
+case_rerun input c size steps status.Usage old now ends has drives = absurd drives
 
-pub case_shake : (w : Schedule) (input : List ℕ) (c : Recording) (size : ℕ) (s : Status) (old now : Option (List ℕ)) → IsRecording c → HasCase input c size → Drives c (outcome_of c (steps_of c w)) (shaken c (steps_of c w)) s old now → is_illegal s ≡ false → AnswersShake w s input old now
-case_shake w input c size status.Ok old now rules has drives legal = record { shaking = record { case = c; size = size; has = has; is = drives.0 }; ends = ends_whole c (steps_of c w) rules drives.0; is = drives.1; text = drives.2 }
-case_shake w input c size status.Cut old now rules has drives legal = record { shaking = record { case = c; size = size; has = has; is = drives.0 }; ends = schedule_ends_cut c w rules drives.0; is = drives.1; text = drives.2 }
-case_shake w input c size (status.Illegal i) old now rules has drives legal = cc
-case_shake w input c size status.Open old now rules has drives legal = (record { case = c; size = size; has = has; is = drives.0 }, drives.1)
-case_shake w input c size (status.BadCase f) old now rules has drives legal = absurd drives
-case_shake w input c size status.TooBig old now rules has drives legal = absurd drives
-case_shake w input c size status.ReadFault old now rules has drives legal = absurd drives
-case_shake w input c size status.WriteFault old now rules has drives legal = record { case = c; size = size; has = has; is = drives.0; front = drives.1 }
-case_shake w input c size status.NoMemory old now rules has drives legal =
+pub case_shake : (w : Schedule) (input : List ℕ) (c : Recording) (size : ℕ) (s : Status) (old now : Option (List ℕ)) → (outcome_of c (steps_of c w) ≡ ended.Whole → EndsWhole c (steps_of c w)) × (outcome_of c (steps_of c w) ≡ ended.Cut → EndsCut c (steps_of c w)) → HasCase input c size → Drives c (outcome_of c (steps_of c w)) (shaken c (steps_of c w)) s old now → is_illegal s ≡ false → AnswersShake w s input old now
+case_shake w input c size status.Ok old now ends has drives legal = record { shaking = record { case = c; size = size; has = has; is = drives.0 }; ends = ends.0 drives.0; is = drives.1; text = drives.2 }
+case_shake w input c size status.Cut old now ends has drives legal = record { shaking = record { case = c; size = size; has = has; is = drives.0 }; ends = ends.1 drives.0; is = drives.1; text = drives.2 }
+case_shake w input c size (status.Illegal i) old now ends has drives legal = cc
+case_shake w input c size status.Open old now ends has drives legal = (record { case = c; size = size; has = has; is = drives.0 }, drives.1)
+case_shake w input c size (status.BadCase f) old now ends has drives legal = absurd drives
+case_shake w input c size status.TooBig old now ends has drives legal = absurd drives
+case_shake w input c size status.ReadFault old now ends has drives legal = absurd drives
+case_shake w input c size status.WriteFault old now ends has drives legal = record { case = c; size = size; has = has; is = drives.0; front = drives.1 }
+case_shake w input c size status.NoMemory old now ends has drives legal =
     elim drives [
       | inl same ↦ inl same
       | inr begun ↦ inr (record { case = c; size = size; has = has; is = begun.0; front = begun.1 })
     ]
-case_shake w input c size (status.Differs p) old now rules has drives legal = absurd drives
-case_shake w input c size status.Usage old now rules has drives legal = absurd drives
+case_shake w input c size (status.Differs p) old now ends has drives legal = absurd drives
+case_shake w input c size status.Usage old now ends has drives legal = absurd drives
 
 pub drives_of_case : (c : Recording) (e : Ended) (text : List ℕ) (s : Status) (old now : Option (List ℕ)) → Drives c e text s old now → is_of_case s ≡ true
 drives_of_case c e text status.Ok old now drives = refl
@@ -121,9 +120,6 @@ drives_of_case c e text (status.Differs p) old now drives = refl
 drives_of_case c e text status.Usage old now drives = absurd drives
 
 -- ---- one journal
-
-pub one_of_header : (h : Heading) → IsHeading h → AreOneJournal h
-one_of_header h rules = λ ls a b p q. one_journal h ls a b rules p q
 
 lines_of_one : (input : List ℕ) (c d : Recording) (m n : ℕ) (steps : List Step) → c ≡ d → m ≡ n → HasJournal input d n steps → HasJournal input c m steps
 lines_of_one input c d m n steps same sizes p =

@@ -1,10 +1,8 @@
 pub mod Networks
 pub mod Answering
 pub mod Completing
-pub mod Legal
 pub mod Showing
 pub mod Places
-pub mod Ends
 pub mod DrivesAnswering
 pub mod DrivesCompleting
 pub mod Promising

@@ -13,6 +13,7 @@
 //! | `checking.rt` | `check` |
 //! | `shown.rt` | the fabric of a case, and writing the trace that it shows, whoever drove it |
 //! | `rerun.rt` | `rerun` |
+//! | `ends.rt` | what the steps are that come to an end |
 //! | `shake.rt` | `shake` |
 //!
 //! The one contract upwards: the record `Promise` of `specs/Commands.antt`, what a command says of its
@@ -42,6 +43,7 @@
 #![tactic(auto)]
 
 mod checking;
+mod ends;
 mod input;
 mod rerun;
 mod shake;

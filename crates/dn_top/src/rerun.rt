@@ -11,6 +11,7 @@ ghost use Rattle.dn_top.specs.Promises.{AnswersRerun, HasCase, network_of, outco
 ghost use Rattle.dn_top.specs.Drives.{IsFabricOf, Drives, IsJournalRefusal, HasOneJournal};
 
 use crate::checking::behind;
+use crate::ends::ends;
 use crate::shown::fabric_of;
 use crate::status::Status;
 use crate::written::{Shown, write_run};
@@ -41,6 +42,7 @@ pub(crate) fn rerun_case<K: Sink>(
     ensures fault { result ≡ Status.WriteFault → Rose (K.faults sink.old) (K.faults sink.new) }
     ensures later { K.faults sink.old ≤ K.faults sink.new }
 {
+    ends();
     match steps_behind(alloc, input, &case.header, size) {
         Ok(steps) => rerun_steps(alloc, case, steps.as_slice(), sink),
         Err(status) => status,

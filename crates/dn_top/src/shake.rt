@@ -119,5 +119,6 @@ fn push_journal(header: &Header, fabric: &Fabric<AnyGuest>, out: &mut Bytes) -> 
     ensures { OnOk result (out.new ≡ out.old ++ journal_text header.now fabric.now.journal) }
 {
     let _groups = header.groups;
+    dn_journal::laws::legal_steps_may_stand_in_a_journal::<AnyGuest>();
     write_journal(header, fabric.journal(), out)
 }

@@ -7,6 +7,7 @@ ghost use Rattle.dn_top.specs.Promises.{HasCase};
 ghost use Rattle.dn_top.specs.Commands.{Promise, Fulfils, streams};
 
 use crate::checking::check_case;
+use crate::ends::ends;
 use crate::input::{Given, read_given};
 use crate::rerun::rerun_case;
 use crate::shake::shake_case;
@@ -70,6 +71,7 @@ fn answer<K: Sink>(alloc: Global, command: Command, given: &Given, sink: &mut K)
     requires within { given.now.size ≤ length given.now.input.items }
     ensures { Fulfils command given.now.input.items result (K.holds sink.old) (K.holds sink.new) (K.faults sink.old) (K.faults sink.new) }
 {
+    ends();
     let input = given.input.as_slice();
     let case = &given.case;
     match command {

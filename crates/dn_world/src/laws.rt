@@ -29,6 +29,13 @@ pub fn playable_cases<S>()
     ensures dont_fall { (case : Recording) → IsRecording case → DontFall case.feed }
 {}
 
+/// Before the first step nothing is committed, so the world isn't cut.
+pub fn before_the_first_step<S>()
+    ensures rows { (net : Network S) → settled_rows net (opening (routers net)) ≡ [] }
+    ensures committed { (net : Network S) → committed net (opening (routers net)) ≡ [] }
+    ensures uncut { (net : Network S) → is_cut_off net (opening (routers net)) ≡ false }
+{}
+
 /// Nothing is lost and nothing is made. At each router what it has handled, what it has still to handle and
 /// what flies to it are, up to order, what came from outside so far, what the replays of all handled
 /// histories send to it, and the sendings that are taken back and haven't met their message yet. It holds at

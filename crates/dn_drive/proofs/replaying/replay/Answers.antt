@@ -1,4 +1,5 @@
 use Rattle.std.proofs.Common.{◌≡◌, suc, ◌+◌, true, false, drop, refl, sym, ap, ◌∙◌, subst, arith}
+use Rattle.dn_model.specs.Cases.{Recording}
 use Rattle.dn_fabric.specs.Fabrics.{Fabric, HasStepped}
 use Rattle.dn_drive.specs.declared.ended.Ended.{Ended}
 use Rattle.dn_drive.specs.declared.ended.Ended.TheVariants.{Illegal}
@@ -12,7 +13,7 @@ use Rattle.dn_drive.proofs.replaying.replay.Goals as goal
 pub loop-index-init : goal.loop-index-init
 loop-index-init g c =
     record {
-      driven = driven_first g.G.Guest.meaning c.args.fabric.now c.requires.opening c.requires.case.header.some
+      driven = driven_first g.G.Guest.meaning c.args.fabric.now c.requires.opening c.requires.case.header.some (c.networks.ensures g.G.Guest.meaning c.args.fabric.now.live.header c.args.fabric.now.live.openings c.requires.case.header.some c.requires.opening.one_each)
           (λ net is. c.journal-journal.ensures.reached net is (ap (λ (f : Fabric g.row.G.Denot). f.live.stopped) c.requires.opening.is));
       network = record { header = refl; openings = refl };
       way = λ net is.
@@ -79,7 +80,10 @@ returns-then-is_cut-clause-stands g c =
     let now = c.take_step.new.fabric in
     let yes = way_allowed net c.args.feed.now i.fabric.live.header i.fabric i.rest.now c.index-steps-index.result true (is.header ∙ sym i.invariant.network.header) way (sym c.is_allowed.ensures ∙ c.if-not-is_allowed.false) in
     let step : HasStepped net i.fabric c.index-steps-index.result now = c.in_ok-take_step.ensures.ok net (same_network net g.G.Guest.meaning c.args.fabric.now i.fabric i.invariant.network is) in
-    cut_run net c.args.feed.now c.args.fabric.now.live.header is.header c.requires.case now _ (on_on net c.args.feed.now i.fabric now i.rest.now c.index-steps-index.result way yes step) c.in_ok-take_step.ensures.driven.running (sym c.is_cut.ensures.cut ∙ c.if-is_cut.true)
+    cut_run net c.args.feed.now now _ (on_on net c.args.feed.now i.fabric now i.rest.now c.index-steps-index.result way yes step) c.in_ok-take_step.ensures.driven.running (sym c.is_cut.ensures.cut ∙ c.if-is_cut.true)
+    (λ legal goes off.
+    let case : Recording = record { header = c.args.fabric.now.live.header; feed = c.args.feed.now } in
+    (c.cut_runs.ensures.rows net case now.journal c.requires.case is.header legal goes off, c.cut_runs.ensures.cut net case now.journal c.requires.case is.header legal goes off))
 
 pub loop-index-preserved : goal.loop-index-preserved
 loop-index-preserved g c =
@@ -122,4 +126,5 @@ returns-clause-stands g c =
     let running = i.invariant.driven.running in
     let same : end_of net.header i.fabric.live.world ≡ c.end_of.result = sym (c.end_of.ensures.answer ∙ ap (λ h. end_of h i.fabric.live.world) (i.invariant.network.header ∙ sym is.header)) in
     subst (λ (e : Ended). StandsAt net c.args.feed.now e i.fabric) same
-    (stands_end net c.args.feed.now i.fabric i.rest.now way.on running way.uncut (c.end_of.ensures.at_rest net (same_network net g.G.Guest.meaning c.args.fabric.now i.fabric i.invariant.network is) running))
+    (stands_end net c.args.feed.now i.fabric i.rest.now way.on running way.uncut (c.end_of.ensures.at_rest net (same_network net g.G.Guest.meaning c.args.fabric.now i.fabric i.invariant.network is) running)
+    (λ e. c.end_of.ensures.committed net (is.header ∙ sym i.invariant.network.header) way.on.reached.past (sym same ∙ e)))

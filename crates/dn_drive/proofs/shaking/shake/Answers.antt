@@ -1,4 +1,5 @@
 use Rattle.std.proofs.Common.{◌≡◌, suc, ◌+◌, ◌-◌, [], ◌++◌, length, refl, sym, ap, ◌∙◌, subst, arith}
+use Rattle.dn_model.specs.Cases.{Recording}
 use Rattle.dn_model.specs.Network.{routers}
 use Rattle.dn_world.specs.World.{opening}
 use Rattle.dn_fabric.specs.Fabrics.{Fabric, HasStepped}
@@ -15,7 +16,7 @@ use Rattle.dn_drive.proofs.shaking.shake.Goals as goal
 pub loop-turn-init : goal.loop-turn-init
 loop-turn-init g c =
     record {
-      driven = driven_first g.G.Guest.meaning c.args.fabric.now c.requires.opening c.requires.case.header.some
+      driven = driven_first g.G.Guest.meaning c.args.fabric.now c.requires.opening c.requires.case.header.some (c.networks.ensures g.G.Guest.meaning c.args.fabric.now.live.header c.args.fabric.now.live.openings c.requires.case.header.some c.requires.opening.one_each)
           (λ net is. c.journal-journal.ensures.reached net is (ap (λ (f : Fabric g.row.G.Denot). f.live.stopped) c.requires.opening.is));
       network = record { header = refl; openings = refl };
       way = λ net is.
@@ -51,7 +52,8 @@ returns-then-count-eq0-clause-stands g c =
     let running = i.invariant.driven.running in
     let same : end_of net.header i.fabric.live.world ≡ c.end_of.result = sym (c.end_of.ensures.answer ∙ ap (λ h. end_of h i.fabric.live.world) (sym header)) in
     subst (λ (e : Ended). StandsAt net c.args.feed.now e i.fabric) same
-    (stands_end net c.args.feed.now i.fabric i.rest.now way.on running way.uncut (c.end_of.ensures.at_rest net (same_network net g.G.Guest.meaning c.args.fabric.now i.fabric i.invariant.network is) running))
+    (stands_end net c.args.feed.now i.fabric i.rest.now way.on running way.uncut (c.end_of.ensures.at_rest net (same_network net g.G.Guest.meaning c.args.fabric.now i.fabric i.invariant.network is) running)
+    (λ e. c.end_of.ensures.committed net header way.on.reached.past (sym same ∙ e)))
 
 pub returns-clause-journal : goal.returns-clause-journal
 returns-clause-journal g c =
@@ -80,7 +82,8 @@ returns-clause-stands g c =
     let running = i.invariant.driven.running in
     let same : end_of net.header i.fabric.live.world ≡ c.end_of-2.result = sym (c.end_of-2.ensures.answer ∙ ap (λ h. end_of h i.fabric.live.world) (sym header)) in
     subst (λ (e : Ended). StandsAt net c.args.feed.now e i.fabric) same
-    (stands_end net c.args.feed.now i.fabric i.rest.now way.on running way.uncut (c.end_of-2.ensures.at_rest net (same_network net g.G.Guest.meaning c.args.fabric.now i.fabric i.invariant.network is) running))
+    (stands_end net c.args.feed.now i.fabric i.rest.now way.on running way.uncut (c.end_of-2.ensures.at_rest net (same_network net g.G.Guest.meaning c.args.fabric.now i.fabric i.invariant.network is) running)
+    (λ e. c.end_of-2.ensures.committed net header way.on.reached.past (sym same ∙ e)))
 
 pub choice-requires-clause-counts : goal.choice-requires-clause-counts
 choice-requires-clause-counts g c κs within = c.of-counts.ensures c.loop-turn.rest.now
@@ -134,7 +137,10 @@ returns-then-is_cut-clause-stands g c =
     let s = c.in_ok-step.step in
     let yes = chosen_allowed net i.fabric.live.header i.fabric.live.world i.rest.now c.args.feed.now c.place_of.result s header i.invariant.driven.parts way.on.goes c.in_ok-step.ensures in
     let step : HasStepped net i.fabric s now = c.in_ok-take_step.ensures.ok net (same_network net g.G.Guest.meaning c.args.fabric.now i.fabric i.invariant.network is) in
-    cut_run net c.args.feed.now c.args.fabric.now.live.header is.header c.requires.case now _ (on_on net c.args.feed.now i.fabric now i.rest.now s way yes step) c.in_ok-take_step.ensures.driven.running (sym c.is_cut.ensures.cut ∙ c.if-is_cut.true)
+    cut_run net c.args.feed.now now _ (on_on net c.args.feed.now i.fabric now i.rest.now s way yes step) c.in_ok-take_step.ensures.driven.running (sym c.is_cut.ensures.cut ∙ c.if-is_cut.true)
+    (λ legal goes off.
+    let case : Recording = record { header = c.args.fabric.now.live.header; feed = c.args.feed.now } in
+    (c.cut_runs.ensures.rows net case now.journal c.requires.case is.header legal goes off, c.cut_runs.ensures.cut net case now.journal c.requires.case is.header legal goes off))
 
 pub loop-turn-preserved : goal.loop-turn-preserved
 loop-turn-preserved g c =

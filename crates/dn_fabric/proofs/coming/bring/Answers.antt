@@ -3,7 +3,7 @@ use Rattle.dn_model.specs.declared.event.Event.{Event}
 use Rattle.dn_world.specs.World.{with_todo}
 use Rattle.dn_world.specs.Steps.{arrived}
 use Rattle.dn_router.specs.Routers.{Speculation}
-use Rattle.dn_router.proofs.Answers.{on_ok}
+use Rattle.dn_fabric.proofs.Calls.{on_ok}
 use Rattle.dn_fabric.proofs.coming.bring.Goals as goal
 
 abbrev coming : {S : Type 0} → Speculation S → Event → Speculation S

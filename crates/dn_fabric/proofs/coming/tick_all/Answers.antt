@@ -6,7 +6,7 @@ use Rattle.dn_model.specs.Network.{tick}
 use Rattle.dn_world.specs.Steps.{arrived}
 use Rattle.dn_world.specs.Runs.{IsPast}
 use Rattle.dn_router.specs.Routers.{Speculation}
-use Rattle.dn_router.proofs.Answers.{on_err_all}
+use Rattle.dn_fabric.proofs.Calls.{on_err_all}
 use Rattle.dn_fabric.specs.Coming.{AreAsBefore}
 use Rattle.dn_fabric.proofs.Arrivals.{set_same, tick_past, coming_to, ticked_to, ticked_none, ticked_get, ticked_next, ticked_whole, before_ticked}
 use Rattle.dn_fabric.proofs.coming.tick_all.Goals as goal

@@ -1,7 +1,8 @@
-use Rattle.std.proofs.Common.{◌∙◌}
+use Rattle.std.proofs.Common.{[], ◌∷◌, ◌++◌, ap, ◌∙◌, sym}
+use Rattle.dn_world.specs.declared.entry.Entry.TheVariants.{Stop}
 use Rattle.dn_world.specs.Logs.{log_of}
-use Rattle.dn_world.proofs.LogLists.{log-stop}
 use Rattle.dn_fabric.proofs.laws.stops.Goals as goal
 
 pub returns : goal.returns
-returns g c = λ before now running stopped. (λ i. log_of (stopped.journal i) (stopped.halted.stopped i)) ∙ log-stop before.journal before.live.stopped running
+returns g c = λ before now running stopped.
+    (λ i. log_of (stopped.journal i) (stopped.halted.stopped i)) ∙ c.logs.ensures.stop before.journal ∙ ap (λ b. log_of before.journal b ++ Stop ∷ []) (sym running)

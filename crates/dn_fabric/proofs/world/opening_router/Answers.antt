@@ -5,7 +5,6 @@ use Rattle.dn_world.specs.World.{no_part, key_of, with_todo}
 use Rattle.dn_world.specs.Steps.{arrived}
 use Rattle.dn_world.specs.Runs.{IsPast}
 use Rattle.dn_router.specs.Routers.{Speculation}
-use Rattle.dn_router.proofs.Zero.{zero_first}
 use Rattle.dn_model.specs.Network.{tick}
 use Rattle.dn_fabric.proofs.world.opening_router.Goals as goal
 
@@ -14,7 +13,7 @@ coming e s = record s { part = with_todo (e ∷ []) s.part }
 
 pub arrive-requires-clause-past : goal.arrive-requires-clause-past
 arrive-requires-clause-past g c κs within =
-    subst (λ (b : Key). IsPast b c.tick.result.key) (sym (ap (λ s. s.bound) c.in_ok-router.ensures)) (zero_first c.tick.result.key)
+    subst (λ (b : Key). IsPast b c.tick.result.key) (sym (ap (λ s. s.bound) c.in_ok-router.ensures)) (c.nothing_before_zeros.ensures c.tick.result.key)
 
 pub returns : goal.returns
 unfolding arrived

@@ -1,6 +1,6 @@
 use Rattle.std.proofs.Common.{List, ℕ, refl, sym, subst}
 use Rattle.dn_top.specs.declared.words.Command.TheVariants as command
-use Rattle.dn_top.specs.Promises.{HasCase}
+use Rattle.dn_top.specs.Promises.{HasCase, steps_of}
 use Rattle.dn_top.proofs.Answering.{case_run, writes_of_case, case_check, comparing_of_case}
 use Rattle.dn_top.proofs.DrivesAnswering.{case_shake, drives_of_case}
 use Rattle.dn_top.specs.Commands.{Fulfils}
@@ -54,7 +54,7 @@ pub returns-in-Shake : goal.returns-in-Shake
 returns-in-Shake g c =
     same_task c.args.command (command.Shake c.in-Shake.schedule) _ _ _ _ _ _ c.in-Shake.is
     (record {
-      answers = case_shake c.in-Shake.schedule _ _ _ c.shake_case.result _ _ c.shake_case.ensures.rules c.requires.has c.shake_case.ensures.answers c.shake_case.ensures.legal;
+      answers = case_shake c.in-Shake.schedule _ _ _ c.shake_case.result _ _ (c.ends.ensures.whole c.args.given.now.case (steps_of c.args.given.now.case c.in-Shake.schedule) c.shake_case.ensures.rules, c.ends.ensures.schedule c.args.given.now.case c.in-Shake.schedule c.shake_case.ensures.rules) c.requires.has c.shake_case.ensures.answers c.shake_case.ensures.legal;
       only = drives_of_case _ _ _ c.shake_case.result _ _ c.shake_case.ensures.answers;
       one = λ is. cc;
       write_fault = c.shake_case.ensures.fault;

@@ -12,7 +12,7 @@ beacon-requires-clause-past g c κs within =
 pub invariant_of-self-2 : goal.invariant_of-self-2
 invariant_of-self-2 g c =
     let f = fab c.self.inside.world c.self.inside.journal.items c.self.inside.leased.items in
-    (beacon_taken g.G.Guest.meaning f c.self.invariant (ap (λ f. f.live.stopped) c.self.view_is ∙ c.requires.running) c.note.new.world c.note.new.journal.items
+    (beacon_taken g.G.Guest.meaning (record { onward = c.one_more_step.ensures.onward; stays = c.one_more_step.ensures.stays; grows = c.one_more_step.ensures.grows; taken_off = c.one_more_step.ensures.taken_off; log = c.one_more_step.ensures.log }) f c.self.invariant (ap (λ f. f.live.stopped) c.self.view_is ∙ c.requires.running) c.note.new.world c.note.new.journal.items
     (ap (λ f. f.live.world.closed) c.self.view_is ∙ c.requires.unclosed)
     (subst (λ f. f.live.world.floor + 1 < f.live.header.groups) (sym c.self.view_is) c.requires.left)
     (c.in_ok-note.ensures.world ∙ c.in_ok-beacon.ensures.ok) c.in_ok-note.ensures.journal).holds
@@ -20,7 +20,7 @@ invariant_of-self-2 g c =
 pub returns-clause-ok : goal.returns-clause-ok
 returns-clause-ok g c =
     let f = fab c.self.inside.world c.self.inside.journal.items c.self.inside.leased.items in
-    let step = beacon_taken g.G.Guest.meaning f c.self.invariant (ap (λ f. f.live.stopped) c.self.view_is ∙ c.requires.running) c.note.new.world c.note.new.journal.items
+    let step = beacon_taken g.G.Guest.meaning (record { onward = c.one_more_step.ensures.onward; stays = c.one_more_step.ensures.stays; grows = c.one_more_step.ensures.grows; taken_off = c.one_more_step.ensures.taken_off; log = c.one_more_step.ensures.log }) f c.self.invariant (ap (λ f. f.live.stopped) c.self.view_is ∙ c.requires.running) c.note.new.world c.note.new.journal.items
     (ap (λ f. f.live.world.closed) c.self.view_is ∙ c.requires.unclosed)
     (subst (λ f. f.live.world.floor + 1 < f.live.header.groups) (sym c.self.view_is) c.requires.left)
     (c.in_ok-note.ensures.world ∙ c.in_ok-beacon.ensures.ok) c.in_ok-note.ensures.journal in
@@ -29,7 +29,7 @@ returns-clause-ok g c =
 pub returns-clause-noted : goal.returns-clause-noted
 returns-clause-noted g c =
     let f = fab c.self.inside.world c.self.inside.journal.items c.self.inside.leased.items in
-    let step = beacon_taken g.G.Guest.meaning f c.self.invariant (ap (λ f. f.live.stopped) c.self.view_is ∙ c.requires.running) c.note.new.world c.note.new.journal.items
+    let step = beacon_taken g.G.Guest.meaning (record { onward = c.one_more_step.ensures.onward; stays = c.one_more_step.ensures.stays; grows = c.one_more_step.ensures.grows; taken_off = c.one_more_step.ensures.taken_off; log = c.one_more_step.ensures.log }) f c.self.invariant (ap (λ f. f.live.stopped) c.self.view_is ∙ c.requires.running) c.note.new.world c.note.new.journal.items
     (ap (λ f. f.live.world.closed) c.self.view_is ∙ c.requires.unclosed)
     (subst (λ f. f.live.world.floor + 1 < f.live.header.groups) (sym c.self.view_is) c.requires.left)
     (c.in_ok-note.ensures.world ∙ c.in_ok-beacon.ensures.ok) c.in_ok-note.ensures.journal in

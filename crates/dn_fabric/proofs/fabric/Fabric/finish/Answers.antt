@@ -27,7 +27,7 @@ invariant_of-self-in_err-note-in-Applied g c =
     let running = ap (λ b. b.live.stopped) c.self.view_is ∙ c.requires.running in
     let handled = handled_is g.G.Guest.meaning f c.args.outcome c.in_ok-apply.field-0 Applied c.apply.new.self c.in-Applied.is c.in_ok-apply.ensures.ok in
     halted_holds g.G.Guest.meaning f (fab c.note.new.world c.note.new.journal.items c.self.inside.leased.items) c.self.invariant
-    (half_taken g.G.Guest.meaning f c.self.invariant running c.apply.new.self c.note.new.world c.note.new.journal.items
+    (half_taken g.G.Guest.meaning (record { onward = c.one_more_step.ensures.onward; stays = c.one_more_step.ensures.stays; grows = c.one_more_step.ensures.grows; taken_off = c.one_more_step.ensures.taken_off; log = c.one_more_step.ensures.log }) f c.self.invariant running c.apply.new.self c.note.new.world c.note.new.journal.items
     (λ net. record c.self.inside.world { world = after net c.self.inside.world.world (Handle c.args.outcome.router) })
     (λ net of. (handled net of).1) (λ net. refl) (λ net. refl) c.in_err-note-in-Applied.ensures.stopped c.in_err-note-in-Applied.ensures.same) refl
 
@@ -39,7 +39,7 @@ returns-in_err-note-in-Applied-clause-err g c =
     let now = fab c.note.new.world c.note.new.journal.items c.self.inside.leased.items in
     on_err_all c.from_residual-in_err-note-in-Applied.result
     (subst (λ (b : Fabric g.row.G.Denot). HasStopped b now) c.self.view_is
-    (half_taken g.G.Guest.meaning f c.self.invariant running c.apply.new.self c.note.new.world c.note.new.journal.items
+    (half_taken g.G.Guest.meaning (record { onward = c.one_more_step.ensures.onward; stays = c.one_more_step.ensures.stays; grows = c.one_more_step.ensures.grows; taken_off = c.one_more_step.ensures.taken_off; log = c.one_more_step.ensures.log }) f c.self.invariant running c.apply.new.self c.note.new.world c.note.new.journal.items
     (λ net. record c.self.inside.world { world = after net c.self.inside.world.world (Handle c.args.outcome.router) })
     (λ net of. (handled net of).1) (λ net. refl) (λ net. refl) c.in_err-note-in-Applied.ensures.stopped c.in_err-note-in-Applied.ensures.same))
 
@@ -48,7 +48,7 @@ invariant_of-self-in-Applied g c =
     let f = fab c.self.inside.world c.self.inside.journal.items c.self.inside.leased.items in
     let running = ap (λ b. b.live.stopped) c.self.view_is ∙ c.requires.running in
     let handled = handled_is g.G.Guest.meaning f c.args.outcome c.in_ok-apply.field-0 Applied c.apply.new.self c.in-Applied.is c.in_ok-apply.ensures.ok in
-    (finish_taken g.G.Guest.meaning f c.self.invariant running c.args.outcome.router c.note.new.world c.note.new.journal.items (slice_set c.self.inside.leased.items c.from.result false)
+    (finish_taken g.G.Guest.meaning (record { onward = c.one_more_step.ensures.onward; stays = c.one_more_step.ensures.stays; grows = c.one_more_step.ensures.grows; taken_off = c.one_more_step.ensures.taken_off; log = c.one_more_step.ensures.log }) f c.self.invariant running c.args.outcome.router c.note.new.world c.note.new.journal.items (slice_set c.self.inside.leased.items c.from.result false)
     (leased_inside g.G.Guest.meaning f c.self.invariant c.args.outcome.router (subst (λ (b : Fabric g.row.G.Denot). get_or b.leased c.args.outcome.router false ≡ true) (sym c.self.view_is) c.requires.leased))
     (let found = the_network g.G.Guest.meaning f c.self.invariant in (handled found.0 found.1).0.0)
     (ap (λ r. set c.self.inside.leased.items r false) (c.from.ensures ∙ c.router-router.ensures))
@@ -61,7 +61,7 @@ returns-in_ok-note-in-Applied-clause-ok g c =
     let running = ap (λ b. b.live.stopped) c.self.view_is ∙ c.requires.running in
     let handled = handled_is g.G.Guest.meaning f c.args.outcome c.in_ok-apply.field-0 Applied c.apply.new.self c.in-Applied.is c.in_ok-apply.ensures.ok in
     let now = fab c.note.new.world c.note.new.journal.items (slice_set c.self.inside.leased.items c.from.result false) in
-    let done = finish_taken g.G.Guest.meaning f c.self.invariant running c.args.outcome.router c.note.new.world c.note.new.journal.items (slice_set c.self.inside.leased.items c.from.result false)
+    let done = finish_taken g.G.Guest.meaning (record { onward = c.one_more_step.ensures.onward; stays = c.one_more_step.ensures.stays; grows = c.one_more_step.ensures.grows; taken_off = c.one_more_step.ensures.taken_off; log = c.one_more_step.ensures.log }) f c.self.invariant running c.args.outcome.router c.note.new.world c.note.new.journal.items (slice_set c.self.inside.leased.items c.from.result false)
     (leased_inside g.G.Guest.meaning f c.self.invariant c.args.outcome.router (subst (λ (b : Fabric g.row.G.Denot). get_or b.leased c.args.outcome.router false ≡ true) (sym c.self.view_is) c.requires.leased))
     (let found = the_network g.G.Guest.meaning f c.self.invariant in (handled found.0 found.1).0.0)
     (ap (λ r. set c.self.inside.leased.items r false) (c.from.ensures ∙ c.router-router.ensures))
@@ -76,7 +76,7 @@ returns-in_ok-note-in-Applied-clause-noted g c =
     let running = ap (λ b. b.live.stopped) c.self.view_is ∙ c.requires.running in
     let handled = handled_is g.G.Guest.meaning f c.args.outcome c.in_ok-apply.field-0 Applied c.apply.new.self c.in-Applied.is c.in_ok-apply.ensures.ok in
     let now = fab c.note.new.world c.note.new.journal.items (slice_set c.self.inside.leased.items c.from.result false) in
-    let done = finish_taken g.G.Guest.meaning f c.self.invariant running c.args.outcome.router c.note.new.world c.note.new.journal.items (slice_set c.self.inside.leased.items c.from.result false)
+    let done = finish_taken g.G.Guest.meaning (record { onward = c.one_more_step.ensures.onward; stays = c.one_more_step.ensures.stays; grows = c.one_more_step.ensures.grows; taken_off = c.one_more_step.ensures.taken_off; log = c.one_more_step.ensures.log }) f c.self.invariant running c.args.outcome.router c.note.new.world c.note.new.journal.items (slice_set c.self.inside.leased.items c.from.result false)
     (leased_inside g.G.Guest.meaning f c.self.invariant c.args.outcome.router (subst (λ (b : Fabric g.row.G.Denot). get_or b.leased c.args.outcome.router false ≡ true) (sym c.self.view_is) c.requires.leased))
     (let found = the_network g.G.Guest.meaning f c.self.invariant in (handled found.0 found.1).0.0)
     (ap (λ r. set c.self.inside.leased.items r false) (c.from.ensures ∙ c.router-router.ensures))

@@ -26,7 +26,7 @@ invariant_of-self-2 g c =
     let at : given ≡ x = (λ i. record { group = c.floor.ensures i; router = c.args.router; input = c.args.input }) in
     let same : c.mark.new.self ≡ c.self.inside.world = c.in_ok-copy.ensures.mark ∙ marked_ok c.self.inside.world c.in_ok-copy.copy c.copy-copy.result c.in_ok-copy.ensures.same in
     let copy : c.in_ok-copy.copy ≡ x = from_ok (λ made. made ≡ given) c.in_ok-copy.copy c.copy-copy.result c.in_ok-copy.ensures.same c.copy-copy.ensures ∙ at in
-    (inject_taken g.G.Guest.meaning f c.self.invariant (ap (λ b. b.live.stopped) c.self.view_is ∙ c.requires.running) x c.note.new.world c.note.new.journal.items
+    (inject_taken g.G.Guest.meaning (record { onward = c.one_more_step.ensures.onward; stays = c.one_more_step.ensures.stays; grows = c.one_more_step.ensures.grows; taken_off = c.one_more_step.ensures.taken_off; log = c.one_more_step.ensures.log }) f c.self.invariant (ap (λ b. b.live.stopped) c.self.view_is ∙ c.requires.running) x c.note.new.world c.note.new.journal.items
     (ap (λ b. b.live.world.closed) c.self.view_is ∙ c.requires.unclosed) refl
     (subst (λ (b : Fabric g.row.G.Denot). c.args.router < length b.live.header.routers) (sym c.self.view_is) c.requires.inside)
     (ap (λ b. is_injectable b.live.header c.args.router c.args.input) c.self.view_is ∙ c.requires.asked)
@@ -43,7 +43,7 @@ returns-clause-ok g c =
     let same : c.mark.new.self ≡ c.self.inside.world = c.in_ok-copy.ensures.mark ∙ marked_ok c.self.inside.world c.in_ok-copy.copy c.copy-copy.result c.in_ok-copy.ensures.same in
     let copy : c.in_ok-copy.copy ≡ x = from_ok (λ made. made ≡ given) c.in_ok-copy.copy c.copy-copy.result c.in_ok-copy.ensures.same c.copy-copy.ensures ∙ at in
     subst (λ (b : Fabric g.row.G.Denot). OfEach g.G.Guest.meaning b (λ net. HasStepped net b (Inject (at_floor b given)) now)) c.self.view_is
-    (inject_taken g.G.Guest.meaning f c.self.invariant (ap (λ b. b.live.stopped) c.self.view_is ∙ c.requires.running) x c.note.new.world c.note.new.journal.items
+    (inject_taken g.G.Guest.meaning (record { onward = c.one_more_step.ensures.onward; stays = c.one_more_step.ensures.stays; grows = c.one_more_step.ensures.grows; taken_off = c.one_more_step.ensures.taken_off; log = c.one_more_step.ensures.log }) f c.self.invariant (ap (λ b. b.live.stopped) c.self.view_is ∙ c.requires.running) x c.note.new.world c.note.new.journal.items
     (ap (λ b. b.live.world.closed) c.self.view_is ∙ c.requires.unclosed) refl
     (subst (λ (b : Fabric g.row.G.Denot). c.args.router < length b.live.header.routers) (sym c.self.view_is) c.requires.inside)
     (ap (λ b. is_injectable b.live.header c.args.router c.args.input) c.self.view_is ∙ c.requires.asked)
@@ -60,7 +60,7 @@ returns-clause-noted g c =
     let same : c.mark.new.self ≡ c.self.inside.world = c.in_ok-copy.ensures.mark ∙ marked_ok c.self.inside.world c.in_ok-copy.copy c.copy-copy.result c.in_ok-copy.ensures.same in
     let copy : c.in_ok-copy.copy ≡ x = from_ok (λ made. made ≡ given) c.in_ok-copy.copy c.copy-copy.result c.in_ok-copy.ensures.same c.copy-copy.ensures ∙ at in
     subst (λ (b : Fabric g.row.G.Denot). HasNoted b (Inject (at_floor b given)) now) c.self.view_is
-    (inject_taken g.G.Guest.meaning f c.self.invariant (ap (λ b. b.live.stopped) c.self.view_is ∙ c.requires.running) x c.note.new.world c.note.new.journal.items
+    (inject_taken g.G.Guest.meaning (record { onward = c.one_more_step.ensures.onward; stays = c.one_more_step.ensures.stays; grows = c.one_more_step.ensures.grows; taken_off = c.one_more_step.ensures.taken_off; log = c.one_more_step.ensures.log }) f c.self.invariant (ap (λ b. b.live.stopped) c.self.view_is ∙ c.requires.running) x c.note.new.world c.note.new.journal.items
     (ap (λ b. b.live.world.closed) c.self.view_is ∙ c.requires.unclosed) refl
     (subst (λ (b : Fabric g.row.G.Denot). c.args.router < length b.live.header.routers) (sym c.self.view_is) c.requires.inside)
     (ap (λ b. is_injectable b.live.header c.args.router c.args.input) c.self.view_is ∙ c.requires.asked)

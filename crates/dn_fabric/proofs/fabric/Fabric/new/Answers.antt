@@ -14,4 +14,11 @@ invariant_of-result g c =
     let leased : c.resize.new.self.items ≡ replicate (length c.args.header.routers) false =
     leases_are c.resize.new.self.items c.new-leased.result.items (length c.as_slice.result.now) (vec_len c.new-leased.result) (length c.args.header.routers) c.in_ok-resize.ensures.items c.new-leased.ensures.items c.new-leased.ensures.len count in
     subst (λ (now : Fabric g.row.G.Denot). IsFabric g.G.Guest.meaning now) (λ i. fab (sym c.in_ok-world.ensures i) (sym c.new-2.ensures.items i) (sym leased i))
-    (opening_holds g.G.Guest.meaning c.args.header c.args.guests.items rules c.requires)
+    (opening_holds g.G.Guest.meaning c.args.header c.args.guests.items
+    (λ net.
+    record {
+      balanced = c.equation.ensures.opening net;
+      past = c.boundary.ensures.opening net;
+      rows = c.before_the_first_step.ensures.committed net;
+      uncut = c.before_the_first_step.ensures.uncut net;
+    }) rules c.requires)

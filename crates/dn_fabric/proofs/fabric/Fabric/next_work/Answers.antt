@@ -16,7 +16,7 @@ returns-then-flying-gt0 g c =
 
 pub returns-in-Some : goal.returns-in-Some
 returns-in-Some g c =
-    let known = known_of g.G.Guest.meaning (fab c.self.inside.world c.self.inside.journal.items c.self.inside.leased.items) c.args.self.now c.self.view_is c.self.invariant c.routers.result.now c.routers.ensures.parts c.routers.ensures.count in
+    let known = known_of g.G.Guest.meaning c.reached_fabrics.ensures.ahead (fab c.self.inside.world c.self.inside.journal.items c.self.inside.leased.items) c.args.self.now c.self.view_is c.self.invariant c.routers.result.now c.routers.ensures.parts c.routers.ensures.count in
     let is : RollBack c.in-Some.router ≡ next_work c.args.self.now =
     to_roll_back c.args.self.now (subst (λ n. n ≤ 0) c.flying.ensures c.if-flying-gt0.false) c.in-Some.router
     (c.in-Some.ensures ∙ ap (first_behind 0) (c.routers.ensures.parts ∙ ap (λ b. b.live.world.parts) c.self.view_is)) in
@@ -28,7 +28,7 @@ returns-in-Some-least_ready g c =
     let parts = c.routers.ensures.parts ∙ ap (λ b. b.live.world.parts) c.self.view_is in
     let again = c.routers-2.ensures.parts ∙ ap (λ b. b.live.world.parts) c.self.view_is in
     let leased = c.as_slice.ensures.value ∙ ap (λ b. b.leased) c.self.view_is in
-    let known = known_of g.G.Guest.meaning (fab c.self.inside.world c.self.inside.journal.items c.self.inside.leased.items) c.args.self.now c.self.view_is c.self.invariant c.routers.result.now c.routers.ensures.parts c.routers.ensures.count in
+    let known = known_of g.G.Guest.meaning c.reached_fabrics.ensures.ahead (fab c.self.inside.world c.self.inside.journal.items c.self.inside.leased.items) c.args.self.now c.self.view_is c.self.invariant c.routers.result.now c.routers.ensures.parts c.routers.ensures.count in
     let is : Handle c.in-Some-least_ready.router ≡ next_work c.args.self.now =
     to_handle c.args.self.now (subst (λ n. n ≤ 0) c.flying.ensures c.if-flying-gt0.false) (c.in_default.ensures ∙ ap (first_behind 0) parts) c.in-Some-least_ready.router
     (c.in-Some-least_ready.ensures ∙ (λ i. option_map (λ found. found.0) (least_ready 0 (again i) (leased i) None))) in
@@ -40,7 +40,7 @@ returns-then-gt g c =
     let parts = c.routers.ensures.parts ∙ ap (λ b. b.live.world.parts) c.self.view_is in
     let again = c.routers-2.ensures.parts ∙ ap (λ b. b.live.world.parts) c.self.view_is in
     let leased = c.as_slice.ensures.value ∙ ap (λ b. b.leased) c.self.view_is in
-    let known = known_of g.G.Guest.meaning (fab c.self.inside.world c.self.inside.journal.items c.self.inside.leased.items) c.args.self.now c.self.view_is c.self.invariant c.routers.result.now c.routers.ensures.parts c.routers.ensures.count in
+    let known = known_of g.G.Guest.meaning c.reached_fabrics.ensures.ahead (fab c.self.inside.world c.self.inside.journal.items c.self.inside.leased.items) c.args.self.now c.self.view_is c.self.invariant c.routers.result.now c.routers.ensures.parts c.routers.ensures.count in
     let is : Commit ≡ next_work c.args.self.now =
     to_commit c.args.self.now (subst (λ n. n ≤ 0) c.flying.ensures c.if-flying-gt0.false) (c.in_default.ensures ∙ ap (first_behind 0) parts)
     (c.in_default-least_ready.ensures ∙ (λ i. option_map (λ found. found.0) (least_ready 0 (again i) (leased i) None)))
@@ -53,7 +53,7 @@ returns-then-quiet g c =
     let parts = c.routers.ensures.parts ∙ ap (λ b. b.live.world.parts) c.self.view_is in
     let again = c.routers-2.ensures.parts ∙ ap (λ b. b.live.world.parts) c.self.view_is in
     let leased = c.as_slice.ensures.value ∙ ap (λ b. b.leased) c.self.view_is in
-    let known = known_of g.G.Guest.meaning (fab c.self.inside.world c.self.inside.journal.items c.self.inside.leased.items) c.args.self.now c.self.view_is c.self.invariant c.routers.result.now c.routers.ensures.parts c.routers.ensures.count in
+    let known = known_of g.G.Guest.meaning c.reached_fabrics.ensures.ahead (fab c.self.inside.world c.self.inside.journal.items c.self.inside.leased.items) c.args.self.now c.self.view_is c.self.invariant c.routers.result.now c.routers.ensures.parts c.routers.ensures.count in
     let is : Ended ≡ next_work c.args.self.now =
     ap (λ (q : Bool). if q then Ended else Nothing) (sym c.if-quiet.true)
     ∙ to_end c.args.self.now (subst (λ n. n ≤ 0) c.flying.ensures c.if-flying-gt0.false) (c.in_default.ensures ∙ ap (first_behind 0) parts)
@@ -67,7 +67,7 @@ returns-else-quiet g c =
     let parts = c.routers.ensures.parts ∙ ap (λ b. b.live.world.parts) c.self.view_is in
     let again = c.routers-2.ensures.parts ∙ ap (λ b. b.live.world.parts) c.self.view_is in
     let leased = c.as_slice.ensures.value ∙ ap (λ b. b.leased) c.self.view_is in
-    let known = known_of g.G.Guest.meaning (fab c.self.inside.world c.self.inside.journal.items c.self.inside.leased.items) c.args.self.now c.self.view_is c.self.invariant c.routers.result.now c.routers.ensures.parts c.routers.ensures.count in
+    let known = known_of g.G.Guest.meaning c.reached_fabrics.ensures.ahead (fab c.self.inside.world c.self.inside.journal.items c.self.inside.leased.items) c.args.self.now c.self.view_is c.self.invariant c.routers.result.now c.routers.ensures.parts c.routers.ensures.count in
     let is : Nothing ≡ next_work c.args.self.now =
     ap (λ (q : Bool). if q then Ended else Nothing) (sym c.if-quiet.false)
     ∙ to_end c.args.self.now (subst (λ n. n ≤ 0) c.flying.ensures c.if-flying-gt0.false) (c.in_default.ensures ∙ ap (first_behind 0) parts)

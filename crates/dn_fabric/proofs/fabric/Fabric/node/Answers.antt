@@ -5,11 +5,10 @@ use Rattle.dn_model.specs.Settled.{lockstep}
 use Rattle.dn_world.specs.World.{part, is_quiet}
 use Rattle.dn_router.specs.Replays.{node_over}
 use Rattle.dn_router.specs.Routers.{node_of}
-use Rattle.dn_router.proofs.Network.{node_is}
 use Rattle.dn_fabric.specs.Fabrics.{Fabric, IsNetworkOf}
 use Rattle.dn_fabric.proofs.Calls.{OfEach, rules_of}
 use Rattle.dn_fabric.proofs.Taken.{fab}
-use Rattle.dn_fabric.proofs.Promised.{node_at_rest}
+use Rattle.dn_fabric.proofs.Promised.{at_router}
 use Rattle.dn_fabric.proofs.fabric.Fabric.node.Goals as goal
 
 pub returns-clause-handled : goal.returns-clause-handled
@@ -18,7 +17,7 @@ returns-clause-handled g c =
     (λ net of.
     c.node.ensures ∙ ap (node_of g.G.Guest.meaning) (c.router.ensures.router net of)
     ∙ ap (λ (m : Meaning g.row.G.Denot). node_over m (opening_node net c.args.router) (part c.self.inside.world.world c.args.router).done) (sym of.guests)
-    ∙ node_is net c.args.router (part c.self.inside.world.world c.args.router).done)
+    ∙ c.of_a_network.ensures.node net c.args.router (part c.self.inside.world.world c.args.router).done)
 
 pub returns-clause-end : goal.returns-clause-end
 returns-clause-end g c =
@@ -28,6 +27,7 @@ returns-clause-end g c =
     (λ net of running quiet.
     c.node.ensures ∙ ap (node_of g.G.Guest.meaning) (c.router.ensures.router net of)
     ∙ ap (λ (m : Meaning g.row.G.Denot). node_over m (opening_node net c.args.router) (part c.self.inside.world.world c.args.router).done) (sym of.guests)
-    ∙ node_is net c.args.router (part c.self.inside.world.world c.args.router).done
-    ∙ node_at_rest net f (rules_of g.G.Guest.meaning f net c.self.invariant of) (c.self.invariant.reached net of running) quiet c.args.router
-    (subst (λ h. c.args.router < length h.routers) (sym of.header) inside))
+    ∙ c.of_a_network.ensures.node net c.args.router (part c.self.inside.world.world c.args.router).done
+    ∙ ap (state net c.args.router)
+    ((c.reached_fabrics.ensures.at_rest net f (rules_of g.G.Guest.meaning f net c.self.invariant of) (c.self.invariant.reached net of running) quiet).done c.args.router
+    (at_router net c.args.router (subst (λ h. c.args.router < length h.routers) (sym of.header) inside))))

@@ -5,7 +5,6 @@ use Rattle.dn_fabric.specs.Fabrics.{Fabric, IsNetworkOf}
 use Rattle.dn_fabric.specs.Promises.{IsAtRest}
 use Rattle.dn_fabric.proofs.Calls.{rules_of}
 use Rattle.dn_fabric.proofs.Taken.{fab}
-use Rattle.dn_fabric.proofs.Promised.{rest_is}
 use Rattle.dn_fabric.proofs.Working.{unclosed_not, flying_not, quiet_is}
 use Rattle.dn_fabric.proofs.fabric.Fabric.quiet.Goals as goal
 use Rattle.dn_fabric.proofs.fabric.Fabric.quiet.Goals.{then-not-closed-via-then-not-closed, then-not-closed-via-else-not-closed+then-flying-gt0}
@@ -29,5 +28,5 @@ returns-clause-at_rest g c =
     let quiet = quiet_is c.args.self.now.live.world c.are_quiet.result (sym c.closed.ensures ∙ c.if-not-closed.false) (subst (λ n. n ≤ 0) c.flying.ensures c.if-flying-gt0.false)
     (c.are_quiet.ensures ∙ ap are_quiet (c.routers.ensures.parts ∙ ap (λ b. b.live.world.parts) c.self.view_is)) in
     subst (λ (b : Fabric g.row.G.Denot). (net : Network g.row.G.Denot) → IsNetworkOf net g.G.Guest.meaning b.live.header b.live.openings → b.live.stopped ≡ false → c.are_quiet.result ≡ true → IsAtRest net b.live) c.self.view_is
-    (λ net of running calm. rest_is net f (rules_of g.G.Guest.meaning f net c.self.invariant of) (c.self.invariant.reached net of running)
+    (λ net of running calm. c.reached_fabrics.ensures.at_rest net f (rules_of g.G.Guest.meaning f net c.self.invariant of) (c.self.invariant.reached net of running)
     (ap (λ b. is_quiet b.live.world) c.self.view_is ∙ sym quiet ∙ calm))

@@ -4,7 +4,7 @@ use Rattle.dn_world.specs.World.{key_of}
 use Rattle.dn_world.specs.Steps.{beacon}
 use Rattle.dn_world.specs.Runs.{IsPast}
 use Rattle.dn_router.specs.Routers.{Speculation}
-use Rattle.dn_router.proofs.Answers.{on_err_all}
+use Rattle.dn_fabric.proofs.Calls.{on_err_all}
 use Rattle.dn_fabric.specs.Coming.{all_ticked, AreAsBefore}
 use Rattle.dn_fabric.specs.Fabrics.{Live}
 use Rattle.dn_fabric.specs.Holds.{IsWhole}

@@ -3,7 +3,7 @@ use Rattle.std.specs.Prelude.{nat_lt, slice_get}
 use Rattle.std.proofs.lemmas.Bool.{false≢true}
 use Rattle.dn_model.specs.Order.{sorted}
 use Rattle.dn_model.specs.Settled.{row_limit}
-use Rattle.dn_router.proofs.Answers.{on_err_all}
+use Rattle.dn_fabric.proofs.Calls.{on_err_all}
 use Rattle.dn_world.specs.declared.step.Step.TheVariants.{Commit}
 use Rattle.dn_world.specs.Runs.{IsPast, fresh_rows}
 use Rattle.dn_world.specs.Steps.{after}

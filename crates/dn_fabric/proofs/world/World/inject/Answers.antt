@@ -7,7 +7,7 @@ use Rattle.dn_model.specs.Network.{external}
 use Rattle.dn_world.specs.Steps.{inject}
 use Rattle.dn_world.specs.Runs.{IsPast}
 use Rattle.dn_router.specs.Routers.{Speculation}
-use Rattle.dn_router.proofs.Answers.{on_err_all}
+use Rattle.dn_fabric.proofs.Calls.{on_err_all}
 use Rattle.dn_fabric.specs.Fabrics.{Live}
 use Rattle.dn_fabric.specs.Holds.{IsWhole}
 use Rattle.dn_fabric.proofs.Arrivals.{set_same, external_past, open_past, coming_to, before_same, before_set, before_whole, before_guests, marked, marked_ok, marked_err, ok_marked, err_marked, at_ok, at_err, seen, injected_to, halted}

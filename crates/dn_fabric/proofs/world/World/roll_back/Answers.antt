@@ -1,5 +1,5 @@
 use Rattle.std.proofs.Common.{◌≡◌, ◌<◌, length, refl, sym, ap, ◌∙◌, subst, arith}
-use Rattle.dn_router.proofs.Answers.{on_err_all}
+use Rattle.dn_fabric.proofs.Calls.{on_err_all}
 use Rattle.dn_router.specs.Routers.{rolled_back, unsent}
 use Rattle.dn_world.specs.declared.step.Step.TheVariants.{RollBack}
 use Rattle.dn_world.specs.Steps.{after}
