@@ -12,6 +12,7 @@ fn the_laws_hold_of_flooding_routers() {
     dn_model::laws::rows_one_by_one::<Flood>();
     dn_model::laws::messages_were_sent::<Flood>();
     dn_world::laws::playable_cases::<Flood>();
+    dn_world::laws::before_the_first_step::<Flood>();
     dn_world::laws::equation::<Flood>();
     dn_world::laws::boundary::<Flood>();
     dn_world::laws::prefix::<Flood>();
@@ -29,8 +30,13 @@ fn the_laws_hold_of_flooding_routers() {
     dn_router::laws::of_a_network::<Flood>();
     dn_fabric::laws::networks::<Flood>();
     dn_fabric::laws::stops::<Flood>();
+    dn_fabric::laws::reached_fabrics::<Flood>();
+    dn_fabric::laws::one_more_step::<Flood>();
     dn_drive::laws::whole_journals::<Flood>();
     dn_drive::laws::taken_steps::<Flood>();
+    dn_drive::laws::illegal_steps::<Flood>();
+    dn_drive::laws::open_steps::<Flood>();
+    dn_drive::laws::cut_runs::<Flood>();
     dn_drive::laws::schedules_are_taken::<Flood>();
     dn_drive::laws::only_a_commit_cuts::<Flood>();
 }
