@@ -1,23 +1,15 @@
 //! Both engines beside each other.
 
-ghost use Rattle.std.specs.Prelude.{◌≡◌, length, IfOk};
+ghost use Rattle.std.specs.Prelude.{◌≡◌, ◌<◌, length};
 
+use crate::engines::{
+    ahead, count_of, handle, handle_plainly, node, opening, plain_opening, waiting,
+};
 use crate::plain::PlainEngine;
 use dn_guest::{Flood, NoMemory};
 use dn_lockstep::{Engine, Next};
 use dn_model::{Case, Event};
 use std::alloc::Global;
-
-/// Flooding guests that have seen nothing.
-fn guests(alloc: Global, count: usize) -> Result<Vec<Flood>, NoMemory>
-    ensures { IfOk result (λ made. length made.items ≡ count) }
-{
-    let mut made = Vec::new(alloc);
-    for _guest in 0..count {
-        made.push(Flood::new(alloc))?;
-    }
-    Ok(made)
-}
 
 /// Whether both are None or the same event.
 fn same_event(one: Option<&Event>, other: Option<&Event>) -> bool {
@@ -30,14 +22,28 @@ fn same_event(one: Option<&Event>, other: Option<&Event>) -> bool {
 
 /// Whether both answers are the same.
 fn same_answer(one: Next, other: Next) -> bool {
-    match (one, other) {
-        (Next::Row, Next::Row) | (Next::End, Next::End) | (Next::Cut, Next::Cut) => true,
-        _ => false,
-    }
+    matches!(
+        (one, other),
+        (Next::Row, Next::Row) | (Next::End, Next::End) | (Next::Cut, Next::Cut)
+    )
 }
 
-/// Whether both have the same last row, the same next one, and the same messages on their way.
-fn stand_alike(
+/// Whether both have the same messages on their way to the router.
+fn same_messages(
+    alloc: Global,
+    engine: &Engine<Flood>,
+    plain: &PlainEngine<Flood>,
+    router: u16,
+) -> Result<bool, NoMemory>
+    requires { router < length engine.now.header.routers }
+{
+    let one = waiting(alloc, engine, router)?;
+    let other = plain.waiting(alloc, router)?;
+    Ok(one.as_slice() == other.as_slice())
+}
+
+/// Whether both have the same messages on their way.
+fn same_flight(
     alloc: Global,
     engine: &Engine<Flood>,
     plain: &PlainEngine<Flood>,
@@ -46,12 +52,26 @@ fn stand_alike(
     requires { count ≡ length engine.now.header.routers }
 {
     for router in 0..count {
-        let waiting = engine.waiting(alloc, router)?;
-        if waiting.as_slice() != plain.waiting(alloc, router)?.as_slice() {
+        if !same_messages(alloc, engine, plain, router)? {
             return Ok(false);
         }
     }
-    Ok(same_event(engine.last(), plain.last()) && same_event(engine.peek(), plain.peek()))
+    Ok(true)
+}
+
+/// Whether both have the same last row and the same next one.
+fn same_rows(engine: &Engine<Flood>, plain: &PlainEngine<Flood>) -> bool {
+    same_event(engine.last(), plain.last()) && same_event(ahead(engine), plain.peek())
+}
+
+/// Whether both have the same node of the router.
+fn same_node(engine: &Engine<Flood>, plain: &PlainEngine<Flood>, router: u16) -> bool
+    requires { router < length engine.now.header.routers }
+{
+    match plain.nodes().get(usize::from(router)) {
+        Some(other) => node(engine, router).same(other),
+        None => false,
+    }
 }
 
 /// Whether both have the same nodes.
@@ -59,13 +79,8 @@ fn same_nodes(engine: &Engine<Flood>, plain: &PlainEngine<Flood>, count: u16) ->
     requires { count ≡ length engine.now.header.routers }
 {
     for router in 0..count {
-        match plain.nodes().get(usize::from(router)) {
-            Some(node) => {
-                if !engine.node(router).same(node) {
-                    return false;
-                }
-            }
-            None => return false,
+        if !same_node(engine, plain, router) {
+            return false;
         }
     }
     true
@@ -81,13 +96,12 @@ fn next_of_both(
     requires { count ≡ length engine.old.header.routers }
     ensures { engine.new.header ≡ engine.old.header }
 {
-    let answer = engine.next(alloc)?;
-    let other = plain.next(alloc)?;
-    if same_answer(answer, other) && stand_alike(alloc, engine, plain, count)? {
-        Ok(Some(answer))
-    } else {
-        Ok(None)
-    }
+    let answer = handle(alloc, engine)?;
+    let other = handle_plainly(alloc, plain)?;
+    let alike = same_answer(answer, other)
+        && same_rows(engine, plain)
+        && same_flight(alloc, engine, plain, count)?;
+    Ok(if alike { Some(answer) } else { None })
 }
 
 /// Whether both do the same up to the end, in fewer than 10,000 rows.
@@ -109,28 +123,10 @@ fn do_the_same(
     Ok(false)
 }
 
-/// The engine of the case before its first row. All of its routers flood.
-pub(crate) fn opening(alloc: Global, case: &Case) -> Result<Engine<Flood>, NoMemory>
-    ensures { IfOk result (λ made. made.header ≡ case.now.header) }
-{
-    let count = case.header.routers.as_slice().len();
-    Engine::new(alloc, case, guests(alloc, count)?)
-}
-
-/// The plain engine of the case before its first row.
-fn plain_opening(alloc: Global, case: &Case) -> Result<PlainEngine<Flood>, NoMemory> {
-    let count = case.header.routers.as_slice().len();
-    PlainEngine::new(alloc, case, guests(alloc, count)?)
-}
-
 /// How many rows both engines have handled, if they do the same on the case up to its end.
 pub(crate) fn rows_of_both(alloc: Global, case: &Case) -> Result<Option<u64>, NoMemory> {
-    let count = case.header.routers.as_slice().len() as u16;
     let mut engine = opening(alloc, case)?;
     let mut plain = plain_opening(alloc, case)?;
-    if do_the_same(alloc, &mut engine, &mut plain, count)? {
-        Ok(Some(engine.place()))
-    } else {
-        Ok(None)
-    }
+    let alike = do_the_same(alloc, &mut engine, &mut plain, count_of(case))?;
+    Ok(if alike { Some(engine.place()) } else { None })
 }

@@ -1,5 +1,0 @@
-use Rattle.std.proofs.Common.{◌≡◌, length}
-use Rattle.dn_plain.proofs.beside.guests.Given as goal
-
-abbrev pub invariant-loop-guest : goal.invariant-loop-guest
-invariant-loop-guest l = length l.made.items ≡ l._guest
