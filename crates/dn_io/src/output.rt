@@ -17,7 +17,7 @@ const ROOM: usize = 65_536;
 /// nothing else does. Seen as the list of the bytes that it keeps.
 ///
 /// A text of many rows is written by making each row in a `Vec` and writing it whole, and a `flush`
-/// at the end: `write_pieces` of the crate `text_tests` shows that then the sink holds all, or after a fault a
+/// at the end: `write_pieces` of the crate `call_tests` shows that then the sink holds all, or after a fault a
 /// front of the text.
 #[derive(Drop)]
 pub struct OutputBuffer {
