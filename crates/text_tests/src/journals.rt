@@ -1,7 +1,7 @@
 //! The steps of a journal, read and written.
 
 use crate::cases::case_of;
-use dn_guest::{Bytes, Input, NoMemory};
+use dn_guest::{Bytes, Flood, Input, NoMemory};
 use dn_journal::{Step, laws, read_journal, write_journal};
 use dn_model::{External, Header};
 use std::alloc::{AllocError, Global};
@@ -134,4 +134,5 @@ fn the_laws_can_be_called() {
     laws::a_text_has_one_journal();
     laws::steps_have_one_text();
     laws::a_text_has_one_first_bad_line();
+    laws::legal_steps_may_stand_in_a_journal::<Flood>();
 }

@@ -7,7 +7,7 @@
 //!
 //! | File | What it tests |
 //! |---|---|
-//! | `streams.rt` | `dn_io`, and a caller of the output buffer that is proved over its contract |
+//! | `streams.rt` | `dn_io` |
 //! | `fields.rt` | `dn_text` |
 //! | `cases.rt` | `dn_case` |
 //! | `journals.rt` | `dn_journal` |

@@ -1,53 +1,10 @@
-//! Each call once with ample memory and its answer, and a caller of the output buffer.
-ghost use Rattle.std.specs.Prelude.{◌≡◌, OnOk, OnErr, IsErrOf};
-ghost use Rattle.text_tests.specs.declared.streams.Stopped.TheVariants.{Fault, NoMemory};
-ghost use Rattle.std.specs.List.{flat_map};
-ghost use Rattle.dn_io.specs.Streams.{behind, PutsFront, Rose};
+//! Each call once with ample memory and its answer.
 
 use dn_io::{
-    MemSink, MemSource, NoMemory, OutputBuffer, Put, ReadError, Sink, Source, StdSink, StdSource,
-    Took, WriteFault, put_all, read_all,
+    MemSink, MemSource, NoMemory, Put, ReadError, Sink, Source, StdSink, StdSource, Took,
+    WriteFault, put_all, read_all,
 };
 use std::alloc::Global;
-
-/// Why the pieces weren't all written.
-#[derive(Clone, Copy, Debug, PartialEq, Eq)]
-enum Stopped {
-    Fault,
-    NoMemory,
-}
-
-impl From<WriteFault> for Stopped {
-    ghost from_gives = { λ _ stopped. stopped ≡ Fault };
-
-    fn from(_fault: WriteFault) -> Stopped {
-        Stopped::Fault
-    }
-}
-
-impl From<NoMemory> for Stopped {
-    ghost from_gives = { λ _ stopped. stopped ≡ NoMemory };
-
-    fn from(_error: NoMemory) -> Stopped {
-        Stopped::NoMemory
-    }
-}
-
-/// Writes the pieces one after another, through a buffer.
-fn write_pieces<K: Sink>(alloc: Global, sink: &mut K, pieces: &[Vec<u8>]) -> Result<(), Stopped>
-    ensures all { OnOk result
-        (K.holds sink.new ≡ behind (K.holds sink.old) (flat_map (λ piece. piece.items) pieces.now)) }
-    ensures front { OnErr result
-        (PutsFront (K.holds sink.old) (K.holds sink.new) (flat_map (λ piece. piece.items) pieces.now)) }
-    ensures fault { IsErrOf result Stopped.Fault → Rose (K.faults sink.old) (K.faults sink.new) }
-{
-    let mut out = OutputBuffer::new(alloc)?;
-    for piece in pieces {
-        out.write(sink, piece)?;
-    }
-    out.flush(sink)?;
-    Ok(())
-}
 
 /// Whether a read of a source takes so many bytes, and the buffer begins so behind it.
 fn reads(source: &mut MemSource, into: &mut [u8; 3], took: Took, front: &[u8]) -> bool {
@@ -114,58 +71,6 @@ fn all_is_put_in_parts(rt: HostRuntime) -> Result<(), NoMemory> {
     assert!(rt; put_all(&mut sink, b"abcde").is_ok());
     assert!(rt; put_all(&mut sink, b"fghij").is_err());
     assert!(rt; sink.as_slice() == b"abcdefghi".as_slice());
-    Ok(())
-}
-
-/// So many equal bytes behind those of the text, and as a piece of their own.
-fn push_piece(
-    text: &mut Vec<u8>,
-    pieces: &mut Vec<Vec<u8>>,
-    piece: Vec<u8>,
-) -> Result<(), NoMemory> {
-    text.extend_from_slice(piece.as_slice())?;
-    pieces.push(piece)?;
-    Ok(())
-}
-
-/// So many equal bytes.
-fn equal_bytes(alloc: Global, byte: u8, count: usize) -> Result<Vec<u8>, NoMemory> {
-    let mut bytes = Vec::new(alloc);
-    bytes.resize(count, byte)?;
-    Ok(bytes)
-}
-
-/// Puts four pieces behind those of the text: past the buffer's room alone, past it beside what is kept, and
-/// small.
-fn push_four(alloc: Global, text: &mut Vec<u8>, pieces: &mut Vec<Vec<u8>>) -> Result<(), NoMemory> {
-    push_piece(text, pieces, equal_bytes(alloc, 1, 70_000)?)?;
-    push_piece(text, pieces, equal_bytes(alloc, 2, 65_000)?)?;
-    push_piece(text, pieces, equal_bytes(alloc, 3, 1000)?)?;
-    push_piece(text, pieces, equal_bytes(alloc, 4, 3)?)
-}
-
-#[test]
-fn pieces_go_through_the_buffer(rt: HostRuntime) -> Result<(), NoMemory> {
-    let mut pieces = Vec::new(rt.alloc());
-    let mut text = Vec::new(rt.alloc());
-    push_four(rt.alloc(), &mut text, &mut pieces)?;
-    let mut sink = MemSink::new(rt.alloc(), Vec::new(rt.alloc()), 65_536, 140_000)?;
-    assert!(rt; write_pieces(rt.alloc(), &mut sink, &pieces) == Ok(()));
-    assert!(rt; sink.as_slice() == text.as_slice());
-    let mut small = MemSink::new(rt.alloc(), Vec::new(rt.alloc()), 65_536, 70_001)?;
-    assert!(rt; write_pieces(rt.alloc(), &mut small, &pieces) == Err(Stopped::Fault));
-    assert!(rt; small.as_slice().len() == 70_001 && text.starts_with(small.as_slice()));
-    Ok(())
-}
-
-#[test]
-fn a_fault_keeps_what_was_not_taken(rt: HostRuntime) -> Result<(), NoMemory> {
-    let fails = Vec::from_slice(rt.alloc(), &[1])?;
-    let mut sink = MemSink::new(rt.alloc(), fails, 2, 9)?;
-    let mut out = OutputBuffer::new(rt.alloc())?;
-    assert!(rt; out.write(&mut sink, b"abcd").is_ok() && sink.as_slice().is_empty());
-    assert!(rt; out.flush(&mut sink).is_err() && out.as_slice() == b"cd".as_slice());
-    assert!(rt; out.flush(&mut sink).is_ok() && sink.as_slice() == b"abcd".as_slice());
     Ok(())
 }
 
