@@ -11,7 +11,7 @@
 //! | `commands.rt` | `defined_plain` on a source and a sink that fail at a numbered call or move single bytes |
 //! | `full.rt` | a full link-state database, a full RIP routing table |
 //! | `laws.rt` | each law of networks at the flooding guest |
-//! | `streams.rt` | the output buffer, and a caller that is proved over its contract; the words of errors |
+//! | `streams.rt` | the words of errors, and what may go to another thread |
 //! | `traces.rt` | single rows and states, rows that come in pieces |
 //!
 //! A test is proved before it runs. Most of that time goes into the first call of each crate, whose definitions are

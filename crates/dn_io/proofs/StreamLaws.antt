@@ -1,8 +1,8 @@
 -- Laws about what is told and what is put, one piece after another.
-use Rattle.std.proofs.Common.{◌≡◌, ℕ, ◌+◌, ◌-◌, ◌≤◌, List, [], ◌++◌, length, take, drop, Option, Some, None, refl, ap, sym, subst, ◌∙◌, append_assoc, append-nil, arith}
+use Rattle.std.proofs.Common.{◌≡◌, ℕ, ◌+◌, ◌-◌, ◌≤◌, List, [], ◌++◌, length, take, drop, Option, Some, None, refl, ap, sym, ◌∙◌, append_assoc, append-nil, arith}
 use Rattle.std.proofs.lemmas.List.{take_at, length-take-le, length-append, take-append-drop, take-append-le, length-drop}
 use Rattle.std.proofs.Math.Seq.{take-add, drop-drop, take-append_seam, take-append-add}
-use Rattle.dn_io.specs.Streams.{before, behind, PutsFront, PutsOrKeeps, PutsOrKeepsFront}
+use Rattle.dn_io.specs.Streams.{before, behind, PutsFront, PutsOrKeeps}
 
 pub behind-nil : (told : Option (List ℕ)) → behind told [] ≡ told
 behind-nil None = refl
@@ -40,27 +40,12 @@ PutsFront-after {old} {then} {now} {two} one all front =
       put = front.put ∙ ap (λ told. behind told (take n two)) all ∙ behind-behind old one (take n two) ∙ ap (behind old) (sym (take-append-add one two n));
     }
 
--- nothing was put, and nothing is kept
-pub PutsOrKeeps-none : (told : Option (List ℕ)) → PutsOrKeeps told told [] []
-PutsOrKeeps-none told = record { whole = refl; rest = omega arith }
-
--- one text after another
-pub PutsOrKeeps-after : {old then now : Option (List ℕ)} {kept left text : List ℕ} (more : List ℕ) → PutsOrKeeps old then kept text → PutsOrKeeps then now left (kept ++ more) → PutsOrKeeps old now left (text ++ more)
-PutsOrKeeps-after {old} {then} {now} {kept} {left} {text} more first second = record {
-  whole = second.whole ∙ sym (behind-behind then kept more) ∙ ap (λ told. behind told more) first.whole ∙ behind-behind old text more;
-  rest = omega (arith, length-append text more, length-append kept more, first.rest, second.rest);
-}
-
 -- a flush of what was kept
 pub PutsOrKeeps-flush : {old then now : Option (List ℕ)} {kept left text : List ℕ} → PutsOrKeeps old then kept text → PutsOrKeeps then now left kept → PutsOrKeeps old now left text
 PutsOrKeeps-flush first second = record {
   whole = second.whole ∙ first.whole;
   rest = omega (arith, first.rest, second.rest);
 }
-
--- where nothing is kept all of the text was put
-pub PutsOrKeeps-all : {old now : Option (List ℕ)} {text : List ℕ} → PutsOrKeeps old now [] text → now ≡ behind old text
-PutsOrKeeps-all {old} {now} it = sym (behind-nil now) ∙ it.whole
 
 -- a list that is parted at two places
 front-of : (held first kept text : List ℕ) → held ++ kept ≡ first ++ text → length kept ≤ length text → held ≡ first ++ take (length text - length kept) text
@@ -83,37 +68,6 @@ PutsOrKeeps-front {old} {now} {kept} {text} it = record {
   within = omega arith;
   put = front-put old now kept text it.whole it.rest;
 }
-
--- nothing of a piece is a front of it
-pub PutsOrKeepsFront-none : {old now : Option (List ℕ)} {kept before : List ℕ} (piece : List ℕ) → PutsOrKeeps old now kept before → PutsOrKeepsFront old now kept before piece
-PutsOrKeepsFront-none {old} {now} {kept} {before} piece it = record {
-  count = 0;
-  within = omega arith;
-  split = rw append-nil it;
-}
-
--- a front of one piece is a front of a longer one
-pub PutsOrKeepsFront-longer : {old now : Option (List ℕ)} {kept before one : List ℕ} (two : List ℕ) → PutsOrKeepsFront old now kept before one → PutsOrKeepsFront old now kept before (one ++ two)
-PutsOrKeepsFront-longer {old} {now} {kept} {before} {one} two front =
-    let within = front.within in
-    record { count = front.count; within = simp length-append (omega arith); split = rw take-append-le front.split }
-
--- all of one piece and then a front of another is a front of both
-pub PutsOrKeepsFront-after : {old then now : Option (List ℕ)} {kept left two : List ℕ} (before one : List ℕ) → PutsOrKeeps old then kept (before ++ one) → PutsOrKeepsFront then now left kept two → PutsOrKeepsFront old now left before (one ++ two)
-PutsOrKeepsFront-after {old} {then} {now} {kept} {left} {two} before one first front =
-    let n = front.count in
-    record {
-      count = length one + n;
-      within = simp length-append (omega (arith, front.within));
-      split = rw (take-append-add, ← append_assoc) (PutsOrKeeps-after (take n two) first front.split);
-    }
-
--- where a front of the piece was put or kept, a front of it was put behind what was kept before
-pub PutsOrKeepsFront-front : {old now : Option (List ℕ)} {kept before piece : List ℕ} → PutsOrKeepsFront old now kept before piece → PutsFront old now (before ++ piece)
-PutsOrKeepsFront-front {old} {now} {kept} {before} {piece} it =
-    let n = it.count in
-    let all : before ++ take n piece ++ drop n piece ≡ before ++ piece = append_assoc before (take n piece) (drop n piece) ∙ ap (λ (l : List ℕ). before ++ l) (take-append-drop n piece) in
-    subst (λ (l : List ℕ). PutsFront old now l) all (PutsFront-longer (drop n piece) (PutsOrKeeps-front it.split))
 
 -- n more of the bytes that came
 pub came-more : (old then now : Option (List ℕ)) (all into : List ℕ) (n : ℕ) → old ≡ before all then → n ≤ length into → then ≡ before (take n into) now → (length (all ++ take n into) ≡ length all + n) × (old ≡ before (all ++ take n into) now)

@@ -51,9 +51,3 @@ pub record PutsOrKeeps (old now : Option (List ℕ)) (kept text : List ℕ) : Ty
   -- what is held now and then what is kept is what was held and then the text
   pub whole : behind now kept ≡ behind old text
   pub rest : length kept ≤ length text
-
--- the same of what was kept before and a front of the piece, of so many bytes
-pub record PutsOrKeepsFront (old now : Option (List ℕ)) (kept before piece : List ℕ) : Type 0 where
-  pub count : ℕ
-  pub within : count ≤ length piece
-  pub split : PutsOrKeeps old now kept (before ++ take count piece)

@@ -11,7 +11,6 @@
 //! | `sink.rt` | the trait `Sink`, and `Put`, the answer of a write |
 //! | `read.rt` | `read_all`, reading to the end within a limit |
 //! | `write.rt` | `put_all`, writing all of some bytes |
-//! | `output.rt` | `OutputBuffer`, which gathers small pieces and hands a sink whole buffers |
 //! | `memory.rt` | `MemSource` and `MemSink`, which tell all and fail at the calls that they are told |
 //! | `standard.rt` | `StdSource` and `StdSink`, over std's readers and writers |
 //!
@@ -24,7 +23,6 @@
 #![tactic(auto)]
 
 mod memory;
-mod output;
 mod read;
 mod sink;
 mod source;
@@ -32,7 +30,6 @@ mod standard;
 mod write;
 
 pub use memory::{MemSink, MemSource};
-pub use output::OutputBuffer;
 pub use read::{ReadError, read_all};
 pub use sink::{Put, Sink};
 pub use source::{Source, Took};

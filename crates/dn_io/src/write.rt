@@ -25,7 +25,7 @@ pub fn put_all<K: Sink>(sink: &mut K, bytes: &[u8]) -> Result<(), WriteFault>
 
 /// Writes the bytes until the sink fails, and gives how many of them it took. Fewer than all of them
 /// is a fault.
-pub(crate) fn put_front<K: Sink>(sink: &mut K, bytes: &[u8]) -> usize
+fn put_front<K: Sink>(sink: &mut K, bytes: &[u8]) -> usize
     ensures within { result ≤ length bytes.now }
     ensures put { K.holds sink.new ≡ behind (K.holds sink.old) (take result bytes.now) }
     ensures fault { result < length bytes.now → Rose (K.faults sink.old) (K.faults sink.new) }
