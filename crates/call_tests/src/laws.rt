@@ -32,6 +32,7 @@ fn the_laws_hold_of_flooding_routers() {
     dn_fabric::laws::stops::<Flood>();
     dn_fabric::laws::reached_fabrics::<Flood>();
     dn_fabric::laws::one_more_step::<Flood>();
+    dn_journal::laws::legal_steps_may_stand_in_a_journal::<Flood>();
     dn_drive::laws::whole_journals::<Flood>();
     dn_drive::laws::taken_steps::<Flood>();
     dn_drive::laws::illegal_steps::<Flood>();
