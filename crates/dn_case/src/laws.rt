@@ -15,7 +15,8 @@ ghost use Rattle.dn_case.specs.Reading.{IsCaseText, IsCaseFront, IsFirstBad};
 
 /// At most one front of a text is a case text, and it is the text of one case.
 pub fn a_text_has_one_case()
-    ensures { (ls : List (List ℕ)) (j k : ℕ) (c d : Recording) → IsCaseText (take j ls) c → IsCaseText (take k ls) d → (take j ls ≡ take k ls) × (c ≡ d) }
+    ensures { (ls : List (List ℕ)) (j k : ℕ) (c d : Recording) → IsCaseText (take j ls) c →
+        IsCaseText (take k ls) d → (take j ls ≡ take k ls) × (c ≡ d) }
 {}
 
 /// A text has at most one first bad line, with one cause.
@@ -39,7 +40,8 @@ pub fn a_written_case_is_read()
     // Its lines are a case text of the case.
     ensures lines { (c : Recording) → IsRecording c → IsCaseText (map spelled (lines_of c)) c }
     // Its text is a front of any text that begins with it.
-    ensures front { (c : Recording) (rest : List ℕ) → IsRecording c → IsCaseFront (case_text c ++ rest) c (length (case_text c)) }
+    ensures front { (c : Recording) (rest : List ℕ) → IsRecording c →
+        IsCaseFront (case_text c ++ rest) c (length (case_text c)) }
 {}
 
 /// What is read as a case is what spells it (`specs/CaseTexts.antt`).
@@ -63,16 +65,20 @@ pub fn prefix_lines_may_be_interleaved()
 /// themselves.
 pub fn a_case_has_one_spelling()
     // Two texts of one case have the same lines that aren't prefix lines, in their order.
-    ensures others { (ls ms : List (List ℕ)) (c : Recording) → IsCaseText ls c → IsCaseText ms c → other_lines ls ≡ other_lines ms }
+    ensures others { (ls ms : List (List ℕ)) (c : Recording) → IsCaseText ls c → IsCaseText ms c →
+        other_lines ls ≡ other_lines ms }
     // They have the same prefix lines of each router, in their order.
-    ensures prefixes { (ls ms : List (List ℕ)) (c : Recording) (name : List ℕ) → IsCaseText ls c → IsCaseText ms c → prefix_lines_of name ls ≡ prefix_lines_of name ms }
+    ensures prefixes { (ls ms : List (List ℕ)) (c : Recording) (name : List ℕ) → IsCaseText ls c → IsCaseText ms c →
+        prefix_lines_of name ls ≡ prefix_lines_of name ms }
     // The prefix lines stand together, at one place in both.
     ensures places { (ls ms : List (List ℕ)) (c : Recording) → IsCaseText ls c → IsCaseText ms c → StandTogether ls ms }
     // A case without prefixes has one text.
-    ensures without { (ls ms : List (List ℕ)) (c : Recording) → AllByRecursion (λ r. r.prefixes ≡ []) c.header.routers → IsCaseText ls c → IsCaseText ms c → ls ≡ ms }
+    ensures without { (ls ms : List (List ℕ)) (c : Recording) →
+        AllByRecursion (λ r. r.prefixes ≡ []) c.header.routers → IsCaseText ls c → IsCaseText ms c → ls ≡ ms }
 {}
 
 /// A line is that of one external of a header at most.
 pub fn a_line_has_one_external()
-    ensures { (h : Heading) (x y : External) (line : List ℕ) → IsHeading h → IsExternalLine h x line → IsExternalLine h y line → x ≡ y }
+    ensures { (h : Heading) (x y : External) (line : List ℕ) → IsHeading h → IsExternalLine h x line →
+        IsExternalLine h y line → x ≡ y }
 {}

@@ -210,7 +210,8 @@ fn push_header(out: &mut Bytes, header: &Header) -> Result<(), NoMemory>
 
 fn push_feed(out: &mut Bytes, header: &Header, feed: &Feed) -> Result<(), NoMemory>
     requires { AreExternals header.now 0 feed.now }
-    ensures ok { OnOk result (out.new ≡ out.old ++ flat_map (λ x. spelled (external_line header.now.routers x)) feed.now) }
+    ensures ok { OnOk result (out.new ≡ out.old ++
+        flat_map (λ x. spelled (external_line header.now.routers x)) feed.now) }
     ensures kept { KeepsFront out.old out.new }
 {
     push_externals(out, header.routers.as_slice(), feed.as_slice())

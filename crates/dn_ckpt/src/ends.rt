@@ -28,7 +28,8 @@ pub(crate) fn drop_before<G: Guest>(kept: &mut BTreeMap<u64, Node<G>>, place: u6
 /// Whether the last kept place is past this one.
 fn is_last_past<G: Guest>(kept: &BTreeMap<u64, Node<G>>, place: u64) -> bool
     ensures more { result ≡ true → 0 < length kept.now.entries }
-    ensures past { result ≡ true → (entry : ℕ × Node G) (others : List (ℕ × Node G)) → kept.now.entries ≡ others ++ entry ∷ [] → place < entry.0 }
+    ensures past { result ≡ true → (entry : ℕ × Node G) (others : List (ℕ × Node G)) →
+        kept.now.entries ≡ others ++ entry ∷ [] → place < entry.0 }
     ensures none { result ≡ false → kept_up_to place kept.now.entries ≡ kept.now.entries }
 {
     match kept.last_key_value() {
@@ -40,7 +41,8 @@ fn is_last_past<G: Guest>(kept: &BTreeMap<u64, Node<G>>, place: u64) -> bool
 /// Whether the first kept place is before this one.
 fn is_first_before<G: Guest>(kept: &BTreeMap<u64, Node<G>>, place: u64) -> bool
     ensures more { result ≡ true → 0 < length kept.now.entries }
-    ensures before { result ≡ true → (entry : ℕ × Node G) (others : List (ℕ × Node G)) → kept.now.entries ≡ entry ∷ others → entry.0 < place }
+    ensures before { result ≡ true → (entry : ℕ × Node G) (others : List (ℕ × Node G)) →
+        kept.now.entries ≡ entry ∷ others → entry.0 < place }
     ensures none { result ≡ false → kept_from place kept.now.entries ≡ kept.now.entries }
 {
     match kept.first_key_value() {

@@ -91,7 +91,8 @@ pub(crate) fn choice<G: Guest>(
     requires parts { length fabric.now.live.world.parts ≡ length fabric.now.live.header.routers }
     requires counts { AreCounts fabric.now.live.header fabric.now.live.world rest.now counts.now }
     requires there { place < length (choices fabric.now.live.header fabric.now.live.world rest.now) }
-    ensures { IfOk result (λ step. slice_get (choices fabric.now.live.header fabric.now.live.world rest.now) place ≡ Some step) }
+    ensures { IfOk result (λ step. slice_get (choices fabric.now.live.header fabric.now.live.world rest.now) place ≡
+        Some step) }
 {
     if place < counts.feeding {
         return feed_step(alloc, fabric, rest);

@@ -31,7 +31,9 @@ pub enum Ended {
 pub(crate) fn end_of<G: Guest>(fabric: &Fabric<G>) -> Ended
     ensures answer { result ≡ end_of fabric.now.live.header fabric.now.live.world }
     ensures legal { IsLegalEnd result }
-    ensures at_rest { (net : Network G) → IsNetworkOf net G.meaning fabric.now.live.header fabric.now.live.openings → fabric.now.live.stopped ≡ false → is_quiet fabric.now.live.world ≡ true → IsAtRest net fabric.now.live }
+    ensures at_rest { (net : Network G) →
+        IsNetworkOf net G.meaning fabric.now.live.header fabric.now.live.openings →
+        fabric.now.live.stopped ≡ false → is_quiet fabric.now.live.world ≡ true → IsAtRest net fabric.now.live }
     ensures committed { (net : Network G) → net.header ≡ fabric.now.live.header
         → IsAllPast net fabric.now.live.world.boundary fabric.now.live.world → result ≡ Ended.Whole
         → fabric.now.live.world.boundary ≡ horizon net.header fabric.now.live.world }

@@ -19,10 +19,15 @@ ghost use Rattle.dn_drive.specs.Outcomes.{StaysOpen, StopsAt};
 /// Steps that come to `Whole` are a legal run of the case that takes all of its feed, and ends quiet with the
 /// boundary at the horizon.
 pub fn whole_journals<S>()
-    ensures legal { (net : Network S) (feed : List External) (steps : List Step) → rerun net (opening (routers net)) feed 0 steps ≡ Whole → IsLegalOf net feed steps }
-    ensures all { (net : Network S) (feed : List External) (steps : List Step) → rerun net (opening (routers net)) feed 0 steps ≡ Whole → injects steps ≡ feed }
-    ensures quiet { (net : Network S) (feed : List External) (steps : List Step) → rerun net (opening (routers net)) feed 0 steps ≡ Whole → is_quiet (world net steps) ≡ true }
-    ensures committed { (net : Network S) (feed : List External) (steps : List Step) → IsTimed net.header → rerun net (opening (routers net)) feed 0 steps ≡ Whole → (world net steps).boundary ≡ horizon net.header (world net steps) }
+    ensures legal { (net : Network S) (feed : List External) (steps : List Step) →
+        rerun net (opening (routers net)) feed 0 steps ≡ Whole → IsLegalOf net feed steps }
+    ensures all { (net : Network S) (feed : List External) (steps : List Step) →
+        rerun net (opening (routers net)) feed 0 steps ≡ Whole → injects steps ≡ feed }
+    ensures quiet { (net : Network S) (feed : List External) (steps : List Step) →
+        rerun net (opening (routers net)) feed 0 steps ≡ Whole → is_quiet (world net steps) ≡ true }
+    ensures committed { (net : Network S) (feed : List External) (steps : List Step) → IsTimed net.header →
+        rerun net (opening (routers net)) feed 0 steps ≡ Whole →
+        (world net steps).boundary ≡ horizon net.header (world net steps) }
 {
     dn_world::laws::boundary::<S>();
     dn_world::laws::horizon::<S>();
@@ -31,9 +36,13 @@ pub fn whole_journals<S>()
 /// The steps that are taken are a front of the journal and a legal run of the case, whatever the journal comes
 /// to. Where it comes to `Cut` they lead to a cut world.
 pub fn taken_steps<S>()
-    ensures front { (net : Network S) (feed : List External) (steps : List Step) → IsPrefixOf (legal_front net (opening (routers net)) feed steps) steps }
-    ensures legal { (net : Network S) (feed : List External) (steps : List Step) → IsLegalOf net feed (legal_front net (opening (routers net)) feed steps) }
-    ensures cut { (net : Network S) (feed : List External) (steps : List Step) → rerun net (opening (routers net)) feed 0 steps ≡ Cut → is_cut_off net (world net (legal_front net (opening (routers net)) feed steps)) ≡ true }
+    ensures front { (net : Network S) (feed : List External) (steps : List Step) →
+        IsPrefixOf (legal_front net (opening (routers net)) feed steps) steps }
+    ensures legal { (net : Network S) (feed : List External) (steps : List Step) →
+        IsLegalOf net feed (legal_front net (opening (routers net)) feed steps) }
+    ensures cut { (net : Network S) (feed : List External) (steps : List Step) →
+        rerun net (opening (routers net)) feed 0 steps ≡ Cut →
+        is_cut_off net (world net (legal_front net (opening (routers net)) feed steps)) ≡ true }
 {}
 
 /// The number at `Illegal` is that of the first step that isn't allowed: the steps before it are taken, and the
@@ -60,7 +69,10 @@ pub fn open_steps<S>()
 
 /// Each step of a schedule of a case is taken.
 pub fn schedules_are_taken<S>()
-    ensures { (net : Network S) (case : Recording) (number turns : ℕ) → IsRecording case → net.header ≡ case.header → legal_front net (opening (routers net)) case.feed (schedule net (opening (routers net)) case.feed number turns) ≡ schedule net (opening (routers net)) case.feed number turns }
+    ensures { (net : Network S) (case : Recording) (number turns : ℕ) → IsRecording case →
+        net.header ≡ case.header →
+        legal_front net (opening (routers net)) case.feed (schedule net (opening (routers net)) case.feed number turns) ≡
+        schedule net (opening (routers net)) case.feed number turns }
 {
     dn_world::laws::equation::<S>();
 }
@@ -68,7 +80,8 @@ pub fn schedules_are_taken<S>()
 /// A step that leaves a cut world where none was is a Commit. So a drive that ends with a cut ends with a
 /// Commit. What it asks of the world holds after every legal run (`dn_world::laws`).
 pub fn only_a_commit_cuts<S>()
-    ensures { (net : Network S) (w : World) (s : Step) → is_enabled net w s ≡ true → IsBalanced net w → IsAllPast net w.boundary w → is_cut_off net w ≡ false → is_cut_off net (after net w s) ≡ true → s ≡ Commit }
+    ensures { (net : Network S) (w : World) (s : Step) → is_enabled net w s ≡ true → IsBalanced net w →
+        IsAllPast net w.boundary w → is_cut_off net w ≡ false → is_cut_off net (after net w s) ≡ true → s ≡ Commit }
 {
     dn_world::laws::growth::<S>();
 }

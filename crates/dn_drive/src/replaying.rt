@@ -35,9 +35,13 @@ pub fn replay<G: Guest>(
 ) -> Result<Ended, NoMemory>
     requires opening { IsOpening fabric.old }
     requires case { IsRecording (record { header = fabric.old.live.header; feed = feed.now }) }
-    ensures answer { (net : Network G) → IsNetworkOf net G.meaning fabric.old.live.header fabric.old.live.openings → IfOk result (λ ended. ended ≡ rerun net (opening (routers net)) feed.now 0 steps.now) }
-    ensures journal { (net : Network G) → IsNetworkOf net G.meaning fabric.old.live.header fabric.old.live.openings → IfOk result (λ ended. fabric.new.journal ≡ legal_front net (opening (routers net)) feed.now steps.now) }
-    ensures stands { (net : Network G) → IsNetworkOf net G.meaning fabric.old.live.header fabric.old.live.openings → IfOk result (λ ended. StandsAt net feed.now ended fabric.new) }
+    ensures answer { (net : Network G) → IsNetworkOf net G.meaning fabric.old.live.header fabric.old.live.openings →
+        IfOk result (λ ended. ended ≡ rerun net (opening (routers net)) feed.now 0 steps.now) }
+    ensures journal { (net : Network G) →
+        IsNetworkOf net G.meaning fabric.old.live.header fabric.old.live.openings →
+        IfOk result (λ ended. fabric.new.journal ≡ legal_front net (opening (routers net)) feed.now steps.now) }
+    ensures stands { (net : Network G) → IsNetworkOf net G.meaning fabric.old.live.header fabric.old.live.openings →
+        IfOk result (λ ended. StandsAt net feed.now ended fabric.new) }
     ensures network { IsOfSameNetwork fabric.old fabric.new }
 {
     // What the journal's own contract says holds of the fabric as it is given.

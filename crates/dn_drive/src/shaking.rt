@@ -37,10 +37,15 @@ pub fn shake<G: Guest>(
 ) -> Result<Ended, NoMemory>
     requires opening { IsOpening fabric.old }
     requires case { IsRecording (record { header = fabric.old.live.header; feed = feed.now }) }
-    ensures journal { (net : Network G) → IsNetworkOf net G.meaning fabric.old.live.header fabric.old.live.openings → IfOk result (λ ended. fabric.new.journal ≡ schedule net (opening (routers net)) feed.now number steps) }
-    ensures answer { (net : Network G) → IsNetworkOf net G.meaning fabric.old.live.header fabric.old.live.openings → IfOk result (λ ended. ended ≡ rerun net (opening (routers net)) feed.now 0 (schedule net (opening (routers net)) feed.now number steps)) }
+    ensures journal { (net : Network G) →
+        IsNetworkOf net G.meaning fabric.old.live.header fabric.old.live.openings →
+        IfOk result (λ ended. fabric.new.journal ≡ schedule net (opening (routers net)) feed.now number steps) }
+    ensures answer { (net : Network G) → IsNetworkOf net G.meaning fabric.old.live.header fabric.old.live.openings →
+        IfOk result (λ ended. ended ≡
+        rerun net (opening (routers net)) feed.now 0 (schedule net (opening (routers net)) feed.now number steps)) }
     ensures legal { IfOk result IsLegalEnd }
-    ensures stands { (net : Network G) → IsNetworkOf net G.meaning fabric.old.live.header fabric.old.live.openings → IfOk result (λ ended. StandsAt net feed.now ended fabric.new) }
+    ensures stands { (net : Network G) → IsNetworkOf net G.meaning fabric.old.live.header fabric.old.live.openings →
+        IfOk result (λ ended. StandsAt net feed.now ended fabric.new) }
     ensures network { IsOfSameNetwork fabric.old fabric.new }
 {
     // What the journal's own contract says holds of the fabric as it is given.

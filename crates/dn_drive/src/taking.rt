@@ -20,8 +20,11 @@ pub(crate) fn take_step<G: Guest>(
     step: &Step,
 ) -> Result<(), NoMemory>
     requires driven { IsDriven fabric.old }
-    requires enabled { (net : Network G) → IsNetworkOf net G.meaning fabric.old.live.header fabric.old.live.openings → is_enabled net fabric.old.live.world step.now ≡ true }
-    ensures ok { (net : Network G) → IsNetworkOf net G.meaning fabric.old.live.header fabric.old.live.openings → OnOk result (HasStepped net fabric.old step.now fabric.new) }
+    requires enabled { (net : Network G) →
+        IsNetworkOf net G.meaning fabric.old.live.header fabric.old.live.openings →
+        is_enabled net fabric.old.live.world step.now ≡ true }
+    ensures ok { (net : Network G) → IsNetworkOf net G.meaning fabric.old.live.header fabric.old.live.openings →
+        OnOk result (HasStepped net fabric.old step.now fabric.new) }
     ensures driven { OnOk result (IsDriven fabric.new) }
     ensures network { IsOfSameNetwork fabric.old fabric.new }
 {
@@ -43,7 +46,8 @@ fn handle<G: Guest>(fabric: &mut Fabric<G>, router: u16) -> Result<(), NoMemory>
     requires driven { IsDriven fabric.old }
     requires inside { router < length fabric.old.live.header.routers }
     requires ready { is_ready (part fabric.old.live.world router) ≡ true }
-    ensures ok { (net : Network G) → IsNetworkOf net G.meaning fabric.old.live.header fabric.old.live.openings → OnOk result (HasStepped net fabric.old (Handle router) fabric.new) }
+    ensures ok { (net : Network G) → IsNetworkOf net G.meaning fabric.old.live.header fabric.old.live.openings →
+        OnOk result (HasStepped net fabric.old (Handle router) fabric.new) }
     ensures err { OnErr result (IsOfSameNetwork fabric.old fabric.new) }
 {
     dn_fabric::laws::networks::<G>();
@@ -63,7 +67,8 @@ fn handle<G: Guest>(fabric: &mut Fabric<G>, router: u16) -> Result<(), NoMemory>
 /// Commits what is below the horizon.
 fn commit<G: Guest>(fabric: &mut Fabric<G>) -> Result<(), NoMemory>
     requires { fabric.old.live.stopped ≡ false }
-    ensures ok { (net : Network G) → IsNetworkOf net G.meaning fabric.old.live.header fabric.old.live.openings → OnOk result (HasStepped net fabric.old Commit fabric.new) }
+    ensures ok { (net : Network G) → IsNetworkOf net G.meaning fabric.old.live.header fabric.old.live.openings →
+        OnOk result (HasStepped net fabric.old Commit fabric.new) }
     ensures err { OnErr result (HasStopped fabric.old fabric.new) }
 {
     let _moved = fabric.commit()?;

@@ -65,7 +65,8 @@ impl<G: Guest> World<G> {
         requires running { self.old.stopped ≡ false }
         requires there { place < length self.old.world.flight }
         requires past { AllByRecursion (λ e. IsPast self.old.world.boundary e.key) (waiting self.old.world) }
-        ensures ok { OnOk result (self.new ≡ record self.old { world = deliver self.old.world place (slice_get self.old.world.flight place) }) }
+        ensures ok { OnOk result (self.new ≡
+            record self.old { world = deliver self.old.world place (slice_get self.old.world.flight place) }) }
         ensures err { OnErr result (HasHalted self.old self.new) }
     {
         let packet = self.flight.take(place);
@@ -81,7 +82,8 @@ impl<G: Guest> World<G> {
 /// The tick of a group comes to each router.
 fn tick_all<G: Guest>(routers: &mut [Router<G>], group: u32) -> Result<(), NoMemory>
     requires numbers { (r : ℕ) (router : Speculation G) → slice_get routers.old r ≡ Some router → router.number ≡ r }
-    requires past { (r : ℕ) (router : Speculation G) → slice_get routers.old r ≡ Some router → IsPast router.bound (key_of group 0) }
+    requires past { (r : ℕ) (router : Speculation G) → slice_get routers.old r ≡ Some router →
+        IsPast router.bound (key_of group 0) }
     requires few { length routers.old ≤ 64 }
     ensures ok { OnOk result (routers.new ≡ all_ticked group 0 routers.old) }
     ensures err { OnErr result (AreAsBefore routers.old routers.new) }
@@ -101,7 +103,8 @@ fn bring<G: Guest>(
 ) -> Result<(), NoMemory>
     requires own { coming.now.router ≡ router.old.number }
     requires past { IsPast router.old.bound (external place coming.now).key }
-    ensures ok { OnOk result (router.new ≡ record router.old { part = with_todo (external place coming.now ∷ []) router.old.part }) }
+    ensures ok { OnOk result (router.new ≡
+        record router.old { part = with_todo (external place coming.now ∷ []) router.old.part }) }
     ensures err { OnErr result (router.new ≡ router.old) }
 {
     let event = Event::external(alloc, place, coming)?;

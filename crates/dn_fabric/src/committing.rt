@@ -52,7 +52,14 @@ impl<G: Guest> World<G> {
     pub(crate) fn commit(&mut self) -> Result<(), NoMemory>
         requires running { self.old.stopped ≡ false }
         requires rising { IsPast self.old.world.boundary (horizon self.old.header self.old.world) }
-        ensures world { (net : Network G) → IsNetworkOf net G.meaning self.old.header self.old.openings → OnOk result (self.new ≡ record self.old { world = after net self.old.world Commit; rows = take row_limit (self.old.rows ++ fresh_rows net self.old.world.boundary (after net self.old.world Commit)); cut = self.old.cut || nat_lt row_limit (length self.old.rows + length (fresh_rows net self.old.world.boundary (after net self.old.world Commit))) }) }
+        ensures world { (net : Network G) → IsNetworkOf net G.meaning self.old.header self.old.openings →
+            OnOk result (self.new ≡ record self.old {
+              world = after net self.old.world Commit;
+              rows = take row_limit (self.old.rows ++
+                  fresh_rows net self.old.world.boundary (after net self.old.world Commit));
+              cut = self.old.cut ||
+                  nat_lt row_limit (length self.old.rows + length (fresh_rows net self.old.world.boundary (after net self.old.world Commit)));
+            }) }
         ensures err { OnErr result (HasHalted self.old self.new) }
     {
         let horizon = self.horizon();
@@ -99,8 +106,10 @@ fn commit_all<G: Guest>(
     routers: &mut [Router<G>],
     key: &Key,
 ) -> Result<Vec<Row>, NoMemory>
-    requires waiting { (r : ℕ) (router : Speculation G) → slice_get routers.old r ≡ Some router → AllByRecursion (λ e. IsPast key.now e.key) (router.part.todo ++ router.part.voids) }
-    requires rising { (r : ℕ) (router : Speculation G) → slice_get routers.old r ≡ Some router → IsPast router.bound key.now }
+    requires waiting { (r : ℕ) (router : Speculation G) → slice_get routers.old r ≡ Some router →
+        AllByRecursion (λ e. IsPast key.now e.key) (router.part.todo ++ router.part.voids) }
+    requires rising { (r : ℕ) (router : Speculation G) → slice_get routers.old r ≡ Some router →
+        IsPast router.bound key.now }
     ensures routers { OnOk result (routers.new ≡ map (committed_to key.now) routers.old) }
     ensures rows { IfOk result (λ rows. rows.items ≡ fresh_of key.now routers.old) }
     ensures handled { AreAsHandled routers.old routers.new }

@@ -82,12 +82,15 @@ impl<G: Guest> Fabric<G> {
     /// opening guest and a lease for each router, and a network of the fabric exists.
     pub fn journal(&self) -> &[Step]
         ensures journal { result.now ≡ self.now.journal }
-        ensures legal { (net : Network G) → IsNetworkOf net G.meaning self.now.live.header self.now.live.openings → IsLegal net self.now.journal }
+        ensures legal { (net : Network G) → IsNetworkOf net G.meaning self.now.live.header self.now.live.openings →
+            IsLegal net self.now.journal }
         ensures rules { IsHeading self.now.live.header }
         ensures network { (net : Network G) × IsNetworkOf net G.meaning self.now.live.header self.now.live.openings }
         ensures one_each { length self.now.live.openings ≡ length self.now.live.header.routers }
         ensures leases { length self.now.leased ≡ length self.now.live.header.routers }
-        ensures reached { (net : Network G) → IsNetworkOf net G.meaning self.now.live.header self.now.live.openings → self.now.live.stopped ≡ false → IsReached net self.now }
+        ensures reached { (net : Network G) →
+            IsNetworkOf net G.meaning self.now.live.header self.now.live.openings → self.now.live.stopped ≡ false →
+            IsReached net self.now }
     {
         self.journal.as_slice()
     }

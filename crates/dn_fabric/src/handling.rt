@@ -20,7 +20,8 @@ impl<G: Guest> World<G> {
     pub(crate) fn order(&self, router: u16) -> Result<Order<G>, NoMemory>
         requires inside { router < length self.now.header.routers }
         requires ready { is_ready (part self.now.world router) ≡ true }
-        ensures { (net : Network G) → IsNetworkOf net G.meaning self.now.header self.now.openings → IfOk result (λ order. order ≡ order_of G.meaning (router_of net self.now.world router)) }
+        ensures { (net : Network G) → IsNetworkOf net G.meaning self.now.header self.now.openings →
+            IfOk result (λ order. order ≡ order_of G.meaning (router_of net self.now.world router)) }
     {
         self.router(router).order()
     }
@@ -29,7 +30,8 @@ impl<G: Guest> World<G> {
     pub(crate) fn apply(&mut self, outcome: Outcome<G>) -> Result<Finished, NoMemory>
         requires running { self.old.stopped ≡ false }
         requires inside { outcome.router < length self.old.header.routers }
-        ensures ok { (net : Network G) → IsNetworkOf net G.meaning self.old.header self.old.openings → IfOk result (λ finished. HasHandled net self.old outcome finished self.new) }
+        ensures ok { (net : Network G) → IsNetworkOf net G.meaning self.old.header self.old.openings →
+            IfOk result (λ finished. HasHandled net self.old outcome finished self.new) }
         ensures err { OnErr result (HasHalted self.old self.new) }
     {
         let applied = self.routers[usize::from(outcome.router())].apply(outcome);
@@ -48,7 +50,8 @@ impl<G: Guest> World<G> {
         requires running { self.old.stopped ≡ false }
         requires inside { router < length self.old.header.routers }
         requires behind { is_behind (part self.old.world router) ≡ true }
-        ensures ok { (net : Network G) → IsNetworkOf net G.meaning self.old.header self.old.openings → OnOk result (self.new ≡ record self.old { world = after net self.old.world (RollBack router) }) }
+        ensures ok { (net : Network G) → IsNetworkOf net G.meaning self.old.header self.old.openings →
+            OnOk result (self.new ≡ record self.old { world = after net self.old.world (RollBack router) }) }
         ensures err { OnErr result (HasHalted self.old self.new) }
     {
         let unsent = self.routers[usize::from(router)].roll_back();

@@ -21,13 +21,15 @@ ghost use Rattle.dn_fabric.specs.Promises.{AreSent, IsAtRest, IsFinal};
 /// There is a network of every header with a router, and with a guest for each of its routers. So what holds
 /// for each such network, and says nothing of it, holds.
 pub fn networks<S>()
-    ensures { (guests : Meaning S) (header : Heading) (openings : List S) → 1 ≤ length header.routers → length openings ≡ length header.routers → (net : Network S) × IsNetworkOf net guests header openings }
+    ensures { (guests : Meaning S) (header : Heading) (openings : List S) → 1 ≤ length header.routers →
+        length openings ≡ length header.routers → (net : Network S) × IsNetworkOf net guests header openings }
 {}
 
 /// A call that found no memory put the mark Stop behind the log. (A step that was noted says itself what it put
 /// there.)
 pub fn stops<S>()
-    ensures { (before now : Fabric S) → before.live.stopped ≡ false → HasStopped before now → log_in now ≡ log_in before ++ Stop ∷ [] }
+    ensures { (before now : Fabric S) → before.live.stopped ≡ false → HasStopped before now →
+        log_in now ≡ log_in before ++ Stop ∷ [] }
 {
     dn_world::laws::logs();
 }

@@ -23,7 +23,8 @@ impl<G: Guest> Fabric<G> {
         requires inside { router < length self.old.live.header.routers }
         requires ready { is_ready (part self.old.live.world router) ≡ true }
         requires free { get_or self.old.leased router false ≡ false }
-        ensures order { (net : Network G) → IsNetworkOf net G.meaning self.old.live.header self.old.live.openings → IfOk result (λ order. order ≡ order_of G.meaning (router_of net self.old.live.world router)) }
+        ensures order { (net : Network G) → IsNetworkOf net G.meaning self.old.live.header self.old.live.openings →
+            IfOk result (λ order. order ≡ order_of G.meaning (router_of net self.old.live.world router)) }
         ensures leased { OnOk result (self.new ≡ with_lease self.old router true) }
         ensures err { OnErr result (HasStopped self.old self.new) }
     {
@@ -38,7 +39,8 @@ impl<G: Guest> Fabric<G> {
     pub fn finish(&mut self, outcome: Outcome<G>) -> Result<Finished, NoMemory>
         requires running { self.old.live.stopped ≡ false }
         requires leased { get_or self.old.leased outcome.router false ≡ true }
-        ensures ok { (net : Network G) → IsNetworkOf net G.meaning self.old.live.header self.old.live.openings → IfOk result (λ finished. HasFinished net self.old outcome finished self.new) }
+        ensures ok { (net : Network G) → IsNetworkOf net G.meaning self.old.live.header self.old.live.openings →
+            IfOk result (λ finished. HasFinished net self.old outcome finished self.new) }
         ensures noted { IfOk result (λ finished. HasEnded self.old outcome finished self.new) }
         ensures err { OnErr result (HasStopped self.old self.new) }
     {

@@ -21,9 +21,14 @@ impl<G: Guest> Fabric<G> {
     pub fn rows_from(&self, place: u64) -> &[Row]
         requires { place ≤ length self.now.live.rows }
         ensures rows { result.now ≡ drop place self.now.live.rows }
-        ensures committed { (net : Network G) → IsNetworkOf net G.meaning self.now.live.header self.now.live.openings → self.now.live.stopped ≡ false → self.now.live.rows ≡ committed net self.now.live.world }
-        ensures prefix { (net : Network G) (feed : List External) → IsNetworkOf net G.meaning self.now.live.header self.now.live.openings → self.now.live.stopped ≡ false → IsFeedOf net.header feed → Continues feed self.now.live.world → IsFinal net self.now.live feed }
-        ensures sent { (net : Network G) → IsNetworkOf net G.meaning self.now.live.header self.now.live.openings → self.now.live.stopped ≡ false → AreSent net self.now.live }
+        ensures committed { (net : Network G) →
+            IsNetworkOf net G.meaning self.now.live.header self.now.live.openings → self.now.live.stopped ≡ false →
+            self.now.live.rows ≡ committed net self.now.live.world }
+        ensures prefix { (net : Network G) (feed : List External) →
+            IsNetworkOf net G.meaning self.now.live.header self.now.live.openings → self.now.live.stopped ≡ false →
+            IsFeedOf net.header feed → Continues feed self.now.live.world → IsFinal net self.now.live feed }
+        ensures sent { (net : Network G) → IsNetworkOf net G.meaning self.now.live.header self.now.live.openings →
+            self.now.live.stopped ≡ false → AreSent net self.now.live }
     {
         crate::laws::reached_fabrics::<G>();
         &self.world.rows()[place as usize..]
@@ -33,9 +38,16 @@ impl<G: Guest> Fabric<G> {
     /// on where the fabric's world is is then cut too, and the committed rows are just those that its trace shows.
     pub fn is_cut(&self) -> bool
         ensures cut { result ≡ self.now.live.cut }
-        ensures committed { (net : Network G) → IsNetworkOf net G.meaning self.now.live.header self.now.live.openings → self.now.live.stopped ≡ false → result ≡ is_cut_off net self.now.live.world }
-        ensures prefix { (net : Network G) (feed : List External) → IsNetworkOf net G.meaning self.now.live.header self.now.live.openings → self.now.live.stopped ≡ false → IsFeedOf net.header feed → Continues feed self.now.live.world → result ≡ true → is_cut net feed ≡ true }
-        ensures shown { (net : Network G) (feed : List External) → IsNetworkOf net G.meaning self.now.live.header self.now.live.openings → self.now.live.stopped ≡ false → IsFeedOf net.header feed → Continues feed self.now.live.world → result ≡ true → self.now.live.rows ≡ shown_rows net feed }
+        ensures committed { (net : Network G) →
+            IsNetworkOf net G.meaning self.now.live.header self.now.live.openings → self.now.live.stopped ≡ false →
+            result ≡ is_cut_off net self.now.live.world }
+        ensures prefix { (net : Network G) (feed : List External) →
+            IsNetworkOf net G.meaning self.now.live.header self.now.live.openings → self.now.live.stopped ≡ false →
+            IsFeedOf net.header feed → Continues feed self.now.live.world → result ≡ true → is_cut net feed ≡ true }
+        ensures shown { (net : Network G) (feed : List External) →
+            IsNetworkOf net G.meaning self.now.live.header self.now.live.openings → self.now.live.stopped ≡ false →
+            IsFeedOf net.header feed → Continues feed self.now.live.world → result ≡ true →
+            self.now.live.rows ≡ shown_rows net feed }
     {
         crate::laws::reached_fabrics::<G>();
         self.world.is_cut()
@@ -45,7 +57,9 @@ impl<G: Guest> Fabric<G> {
     /// then handled its whole lockstep list.
     pub fn quiet(&self) -> bool
         ensures quiet { result ≡ is_quiet self.now.live.world }
-        ensures at_rest { (net : Network G) → IsNetworkOf net G.meaning self.now.live.header self.now.live.openings → self.now.live.stopped ≡ false → result ≡ true → IsAtRest net self.now.live }
+        ensures at_rest { (net : Network G) →
+            IsNetworkOf net G.meaning self.now.live.header self.now.live.openings → self.now.live.stopped ≡ false →
+            result ≡ true → IsAtRest net self.now.live }
     {
         crate::laws::reached_fabrics::<G>();
         if !self.closed() || self.flying() > 0 {
@@ -57,8 +71,12 @@ impl<G: Guest> Fabric<G> {
     /// The router's node after all that it has handled: in a quiet fabric the one after its whole lockstep list.
     pub fn node(&self, router: u16) -> &Node<G>
         requires { router < length self.now.live.header.routers }
-        ensures handled { (net : Network G) → IsNetworkOf net G.meaning self.now.live.header self.now.live.openings → result.now ≡ state net router (part self.now.live.world router).done }
-        ensures end { (net : Network G) → IsNetworkOf net G.meaning self.now.live.header self.now.live.openings → self.now.live.stopped ≡ false → is_quiet self.now.live.world ≡ true → result.now ≡ state net router (lockstep net self.now.live.world.accepted router) }
+        ensures handled { (net : Network G) →
+            IsNetworkOf net G.meaning self.now.live.header self.now.live.openings →
+            result.now ≡ state net router (part self.now.live.world router).done }
+        ensures end { (net : Network G) → IsNetworkOf net G.meaning self.now.live.header self.now.live.openings →
+            self.now.live.stopped ≡ false → is_quiet self.now.live.world ≡ true →
+            result.now ≡ state net router (lockstep net self.now.live.world.accepted router) }
     {
         dn_router::laws::of_a_network::<G>();
         crate::laws::reached_fabrics::<G>();

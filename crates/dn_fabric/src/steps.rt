@@ -23,7 +23,8 @@ impl<G: Guest> Fabric<G> {
         requires running { self.old.live.stopped ≡ false }
         requires unclosed { self.old.live.world.closed ≡ false }
         requires left { self.old.live.world.floor + 1 < self.old.live.header.groups }
-        ensures ok { (net : Network G) → IsNetworkOf net G.meaning self.old.live.header self.old.live.openings → OnOk result (HasStepped net self.old Beacon self.new) }
+        ensures ok { (net : Network G) → IsNetworkOf net G.meaning self.old.live.header self.old.live.openings →
+            OnOk result (HasStepped net self.old Beacon self.new) }
         ensures noted { OnOk result (HasNoted self.old Beacon self.new) }
         ensures err { OnErr result (HasStopped self.old self.new) }
     {
@@ -41,8 +42,17 @@ impl<G: Guest> Fabric<G> {
         requires unclosed { self.old.live.world.closed ≡ false }
         requires inside { router < length self.old.live.header.routers }
         requires asked { is_injectable self.old.live.header router input ≡ true }
-        ensures ok { (net : Network G) → IsNetworkOf net G.meaning self.old.live.header self.old.live.openings → OnOk result (HasStepped net self.old (Inject (record { group = self.old.live.world.floor; router = router; input = input })) self.new) }
-        ensures noted { OnOk result (HasNoted self.old (Inject (record { group = self.old.live.world.floor; router = router; input = input })) self.new) }
+        ensures ok { (net : Network G) → IsNetworkOf net G.meaning self.old.live.header self.old.live.openings →
+            OnOk result (HasStepped net self.old (Inject (record {
+              group = self.old.live.world.floor;
+              router = router;
+              input = input;
+            })) self.new) }
+        ensures noted { OnOk result (HasNoted self.old (Inject (record {
+          group = self.old.live.world.floor;
+          router = router;
+          input = input;
+        })) self.new) }
         ensures err { OnErr result (HasStopped self.old self.new) }
     {
         crate::laws::one_more_step::<G>();
@@ -63,7 +73,8 @@ impl<G: Guest> Fabric<G> {
         requires running { self.old.live.stopped ≡ false }
         requires unclosed { self.old.live.world.closed ≡ false }
         requires last { self.old.live.world.floor + 1 ≡ self.old.live.header.groups }
-        ensures ok { (net : Network G) → IsNetworkOf net G.meaning self.old.live.header self.old.live.openings → OnOk result (HasStepped net self.old Close self.new) }
+        ensures ok { (net : Network G) → IsNetworkOf net G.meaning self.old.live.header self.old.live.openings →
+            OnOk result (HasStepped net self.old Close self.new) }
         ensures noted { OnOk result (HasNoted self.old Close self.new) }
         ensures err { OnErr result (HasStopped self.old self.new) }
     {
@@ -77,7 +88,8 @@ impl<G: Guest> Fabric<G> {
     pub fn deliver(&mut self, place: u64) -> Result<(), NoMemory>
         requires running { self.old.live.stopped ≡ false }
         requires there { place < length self.old.live.world.flight }
-        ensures ok { (net : Network G) → IsNetworkOf net G.meaning self.old.live.header self.old.live.openings → OnOk result (HasStepped net self.old (Deliver place) self.new) }
+        ensures ok { (net : Network G) → IsNetworkOf net G.meaning self.old.live.header self.old.live.openings →
+            OnOk result (HasStepped net self.old (Deliver place) self.new) }
         ensures noted { OnOk result (HasNoted self.old (Deliver place) self.new) }
         ensures err { OnErr result (HasStopped self.old self.new) }
     {
@@ -93,9 +105,11 @@ impl<G: Guest> Fabric<G> {
         requires running { self.old.live.stopped ≡ false }
         requires inside { router < length self.old.live.header.routers }
         requires behind { is_behind (part self.old.live.world router) ≡ true }
-        ensures ok { (net : Network G) → IsNetworkOf net G.meaning self.old.live.header self.old.live.openings → OnOk result (HasStepped net self.old (RollBack router) self.new) }
+        ensures ok { (net : Network G) → IsNetworkOf net G.meaning self.old.live.header self.old.live.openings →
+            OnOk result (HasStepped net self.old (RollBack router) self.new) }
         ensures noted { OnOk result (HasNoted self.old (RollBack router) self.new) }
-        ensures late { (net : Network G) → IsNetworkOf net G.meaning self.old.live.header self.old.live.openings → AllByRecursion (λ e. IsPast self.old.live.world.boundary e.key) (taken_off net (part self.old.live.world router)) }
+        ensures late { (net : Network G) → IsNetworkOf net G.meaning self.old.live.header self.old.live.openings →
+            AllByRecursion (λ e. IsPast self.old.live.world.boundary e.key) (taken_off net (part self.old.live.world router)) }
         ensures err { OnErr result (HasStopped self.old self.new) }
     {
         crate::laws::one_more_step::<G>();
@@ -107,7 +121,8 @@ impl<G: Guest> Fabric<G> {
     /// What is handled below the horizon is committed: it can't change any more.
     pub fn commit(&mut self) -> Result<Moved, NoMemory>
         requires running { self.old.live.stopped ≡ false }
-        ensures ok { (net : Network G) → IsNetworkOf net G.meaning self.old.live.header self.old.live.openings → OnOk result (HasStepped net self.old Commit self.new) }
+        ensures ok { (net : Network G) → IsNetworkOf net G.meaning self.old.live.header self.old.live.openings →
+            OnOk result (HasStepped net self.old Commit self.new) }
         ensures noted { OnOk result (HasNoted self.old Commit self.new) }
         ensures answer { IfOk result (λ moved. HasMoved self.old moved self.new) }
         ensures err { OnErr result (HasStopped self.old self.new) }

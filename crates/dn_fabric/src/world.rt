@@ -86,7 +86,11 @@ impl<G: Guest> World<G> {
     pub(crate) fn router(&self, number: u16) -> &Router<G>
         requires { number < length self.now.header.routers }
         ensures part { result.now.part ≡ part self.now.world number }
-        ensures router { (net : Network G) → IsNetworkOf net G.meaning self.now.header self.now.openings → result.now ≡ record (router_of net self.now.world number) { committed = result.now.committed; bound = result.now.bound } }
+        ensures router { (net : Network G) → IsNetworkOf net G.meaning self.now.header self.now.openings →
+            result.now ≡ record (router_of net self.now.world number) {
+              committed = result.now.committed;
+              bound = result.now.bound;
+            } }
     {
         &self.routers[usize::from(number)]
     }

@@ -128,7 +128,14 @@ impl MemSink {
     /// bytes at a call, and fails at the calls whose numbers stand in `fails`.
     pub fn new(alloc: Global, fails: Vec<u64>, piece: u64, room: u64) -> Result<MemSink, NoMemory>
         requires { 1 ≤ piece }
-        ensures { IfOk result (λ made. made ≡ record { held = []; room = room; fails = fails.items; piece = piece; calls = 0; failed = 0 }) }
+        ensures { IfOk result (λ made. made ≡ record {
+          held = [];
+          room = room;
+          fails = fails.items;
+          piece = piece;
+          calls = 0;
+          failed = 0;
+        }) }
     {
         Ok(MemSink {
             bytes: Vec::with_capacity(alloc, room as usize)?,

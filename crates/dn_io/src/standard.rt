@@ -38,7 +38,8 @@ impl<R: Read> Source for StdSource<R> {
         ensures later { faults_read self.old ≤ faults_read self.new }
 
         // What the reader says of its own bytes.
-        ensures passed { PassesOn result (R.remaining (reader_of self.old)) (R.remaining (reader_of self.new)) into.new }
+        ensures passed { PassesOn result (R.remaining (reader_of self.old))
+            (R.remaining (reader_of self.new)) into.new }
     {
         match read_uninterrupted(&mut self.inner, into) {
             Ok(0) => Took::End,

@@ -12,17 +12,20 @@ ghost use Rattle.dn_journal.specs.Reading.{IsJournal, IsFirstBad};
 
 /// What is written of steps that a journal may have is the journal of those steps.
 pub fn a_written_journal_is_read()
-    ensures { (h : Heading) (steps : List Step) → IsHeading h → AllByRecursion (IsStep h) steps → length steps < 2 ^ 64 → IsJournal h (lines (journal_text h steps)) steps }
+    ensures { (h : Heading) (steps : List Step) → IsHeading h → AllByRecursion (IsStep h) steps →
+        length steps < 2 ^ 64 → IsJournal h (lines (journal_text h steps)) steps }
 {}
 
 /// A text is the journal of one list of steps at most.
 pub fn a_text_has_one_journal()
-    ensures { (h : Heading) (ls : List (List ℕ)) (a b : List Step) → IsHeading h → IsJournal h ls a → IsJournal h ls b → a ≡ b }
+    ensures { (h : Heading) (ls : List (List ℕ)) (a b : List Step) → IsHeading h → IsJournal h ls a →
+        IsJournal h ls b → a ≡ b }
 {}
 
 /// A list of steps is the journal of one text at most: its spelling.
 pub fn steps_have_one_text()
-    ensures { (h : Heading) (text : List ℕ) (steps : List Step) → IsJournal h (lines text) steps → text ≡ journal_text h steps }
+    ensures { (h : Heading) (text : List ℕ) (steps : List Step) → IsJournal h (lines text) steps →
+        text ≡ journal_text h steps }
 {}
 
 /// A text that is no journal has one first bad line.

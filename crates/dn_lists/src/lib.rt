@@ -25,5 +25,6 @@ ghost use Rattle.dn_lists.specs.InOrder.{in_order};
 pub fn a_sort_is_the_one_rising_list<T>()
     ensures sorted { (cmp : T → T → Ordering) → IsTotalOrder cmp → (xs : List T) → IsSorted cmp (in_order cmp xs) }
     ensures same_elements { (cmp : T → T → Ordering) (xs : List T) → IsPermutation xs (in_order cmp xs) }
-    ensures no_other { (cmp : T → T → Ordering) → IsTotalOrder cmp → IsAntisymmetric cmp → (xs ys : List T) → IsPermutation xs ys → IsSorted cmp ys → ys ≡ in_order cmp xs }
+    ensures no_other { (cmp : T → T → Ordering) → IsTotalOrder cmp → IsAntisymmetric cmp → (xs ys : List T) →
+        IsPermutation xs ys → IsSorted cmp ys → ys ≡ in_order cmp xs }
 {}

@@ -40,7 +40,8 @@ impl Agenda {
     /// All that is injected.
     pub(crate) fn new(alloc: Global, header: &Header, feed: &[External]) -> Result<Agenda, NoMemory>
         ensures fronted { IfOk result (λ made. IsFronted made) }
-        ensures all { IfOk result (λ made. IsPermutation (externals 0 feed.now ++ later_ticks 0 header.now.groups (length header.now.routers)) (waiting_in made)) }
+        ensures all { IfOk result (λ made. IsPermutation (externals 0 feed.now ++
+            later_ticks 0 header.now.groups (length header.now.routers)) (waiting_in made)) }
     {
         let mut made = Agenda {
             queue: queued_externals(alloc, feed)?,

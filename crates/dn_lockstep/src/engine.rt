@@ -58,7 +58,9 @@ impl<G: Guest> Engine<G> {
     /// The engine before the first row, with these guests at routers 0, 1, ..
     pub fn new(alloc: Global, case: &Case, guests: Vec<G>) -> Result<Engine<G>, NoMemory>
         requires { length guests.items ≡ length case.now.header.routers }
-        ensures stands { IfOk result (λ made. (net : Network G) → net.header ≡ case.now.header → net.guests ≡ G.meaning → ((r : ℕ) → r < routers net → slice_get guests.items r ≡ Some (net.opening r)) → StandsIn net case.now.feed made) }
+        ensures stands { IfOk result (λ made. (net : Network G) → net.header ≡ case.now.header →
+            net.guests ≡ G.meaning → ((r : ℕ) → r < routers net → slice_get guests.items r ≡ Some (net.opening r)) →
+            StandsIn net case.now.feed made) }
         ensures place { IfOk result (λ made. made.place ≡ 0) }
         ensures header { IfOk result (λ made. made.header ≡ case.now.header) }
     {
@@ -80,11 +82,15 @@ impl<G: Guest> Engine<G> {
     /// Handles the next row, unless there is none or the row limit is reached. After `NoMemory` the
     /// engine is spent; its place and last row stay.
     pub fn next(&mut self, alloc: Global) -> Result<Next, NoMemory>
-        ensures answer { (net : Network G) (feed : List External) → net.guests ≡ G.meaning → StandsIn net feed self.old → IfOk result (λ answer. answer ≡ answer_after self.old.place (rows net feed)) }
-        ensures moved { (net : Network G) (feed : List External) → net.guests ≡ G.meaning → StandsIn net feed self.old → IfOk result (λ answer. HasMoved net feed self.old answer self.new) }
+        ensures answer { (net : Network G) (feed : List External) → net.guests ≡ G.meaning →
+            StandsIn net feed self.old →
+            IfOk result (λ answer. answer ≡ answer_after self.old.place (rows net feed)) }
+        ensures moved { (net : Network G) (feed : List External) → net.guests ≡ G.meaning →
+            StandsIn net feed self.old → IfOk result (λ answer. HasMoved net feed self.old answer self.new) }
         ensures spent { OnErr result (self.new.spent ≡ true) }
         ensures stays_spent { self.old.spent ≡ true → IsErr result }
-        ensures onward { IfOk result (λ answer. answer ≡ Next.Row → (self.old.place < row_limit) × (self.new.place ≡ self.old.place + 1)) }
+        ensures onward { IfOk result (λ answer. answer ≡ Next.Row → (self.old.place < row_limit) ×
+            (self.new.place ≡ self.old.place + 1)) }
         ensures header { self.new.header ≡ self.old.header }
         ensures kept { OnErr result ((self.new.place ≡ self.old.place) × (self.new.last ≡ self.old.last)) }
     {
@@ -126,7 +132,8 @@ impl<G: Guest> Engine<G> {
 
     /// The next row, also beyond the row limit. None exactly where there is none.
     pub fn peek(&self) -> Option<&Event>
-        ensures { (net : Network G) (feed : List External) → StandsIn net feed self.now → option_copied result ≡ slice_get (rows net feed) self.now.place }
+        ensures { (net : Network G) (feed : List External) → StandsIn net feed self.now →
+            option_copied result ≡ slice_get (rows net feed) self.now.place }
     {
         self.agenda.peek()
     }
@@ -143,7 +150,8 @@ impl<G: Guest> Engine<G> {
     pub fn node(&self, router: u16) -> &Node<G>
         requires { router < length self.now.header.routers }
         ensures value { slice_get self.now.nodes router ≡ Some result.now }
-        ensures replay { (net : Network G) (feed : List External) → StandsIn net feed self.now → result.now ≡ state net router (by_router (first_rows net feed self.now.place) router) }
+        ensures replay { (net : Network G) (feed : List External) → StandsIn net feed self.now →
+            result.now ≡ state net router (by_router (first_rows net feed self.now.place) router) }
     {
         &self.nodes[usize::from(router)]
     }
@@ -152,8 +160,11 @@ impl<G: Guest> Engine<G> {
     pub fn waiting(&self, alloc: Global, router: u16) -> Result<Vec<Event>, NoMemory>
         requires { router < length self.now.header.routers }
         ensures sorted { IfOk result (λ found. IsSorted event_cmp found.items) }
-        ensures elements { IfOk result (λ found. IsPermutation (messages (by_router self.now.waiting router)) found.items) }
-        ensures sent { (net : Network G) (feed : List External) → StandsIn net feed self.now → IfOk result (λ found. IsPermutation (sent_to net (by_router (first_rows net feed self.now.place)) router) (messages (by_router (first_rows net feed self.now.place) router) ++ found.items)) }
+        ensures elements { IfOk result (λ found. IsPermutation
+            (messages (by_router self.now.waiting router)) found.items) }
+        ensures sent { (net : Network G) (feed : List External) → StandsIn net feed self.now →
+            IfOk result (λ found. IsPermutation (sent_to net (by_router (first_rows net feed self.now.place)) router) (messages (by_router (first_rows net feed self.now.place) router) ++
+            found.items)) }
     {
         let mut found = self.agenda.messages_to(alloc, router)?;
         found.sort_unstable();

@@ -200,7 +200,8 @@ pub(crate) fn push_messages(
     queued: &[Queued],
     found: &mut Vec<Event>,
 ) -> Result<(), NoMemory>
-    ensures { OnOk result (found.new.items ≡ found.old.items ++ messages (by_router (queued_events queued.now) router)) }
+    ensures { OnOk result (found.new.items ≡ found.old.items ++
+        messages (by_router (queued_events queued.now) router)) }
 {
     for one in queued {
         if one.is_message_to(router) {

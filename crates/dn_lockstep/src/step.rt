@@ -27,7 +27,8 @@ pub(crate) fn handle_least<G: Guest>(
     requires inside { AreInside (length header.now.routers) (waiting_in agenda.old) }
     requires fronted { IsFronted agenda.old }
     requires more { waiting_in agenda.old ≢ [] }
-    ensures handled { IfOk result (λ event. IsHandled G.meaning header.now nodes.old (waiting_in agenda.old) event nodes.new (waiting_in agenda.new)) }
+    ensures handled { IfOk result (λ event. IsHandled G.meaning header.now nodes.old
+        (waiting_in agenda.old) event nodes.new (waiting_in agenda.new)) }
     ensures fronted { OnOk result (IsFronted agenda.new) }
 {
     let event = least(agenda);
@@ -65,7 +66,8 @@ fn send(
     agenda: &mut Agenda,
 ) -> Result<(), NoMemory>
     requires { 0 < timing.now.period }
-    ensures { OnOk result (IsPermutation (waiting_in agenda.old ++ emitted_by timing.now ends.now cause.now sent.items) (waiting_in agenda.new)) }
+    ensures { OnOk result (IsPermutation (waiting_in agenda.old ++
+        emitted_by timing.now ends.now cause.now sent.items) (waiting_in agenda.new)) }
 {
     for output in sent {
         if let Some(event) = message(timing, ends, cause, output) {

@@ -16,37 +16,59 @@ ghost use Rattle.dn_model.specs.SoFar.{IsRunSoFar, IsWired, all_injected, next_e
 /// The rules of a case give the premises of the other laws: times pass, the externals lie in the groups,
 /// the links join routers of the network.
 pub fn cases_are_timed<S>()
-    ensures timed { (net : Network S) (case : Recording) → IsRecording case → net.header ≡ case.header → IsTimed net.header }
-    ensures fed { (net : Network S) (case : Recording) → IsRecording case → net.header ≡ case.header → IsFeedOf net.header case.feed }
+    ensures timed { (net : Network S) (case : Recording) → IsRecording case → net.header ≡ case.header →
+        IsTimed net.header }
+    ensures fed { (net : Network S) (case : Recording) → IsRecording case → net.header ≡ case.header →
+        IsFeedOf net.header case.feed }
     ensures wired { (net : Network S) (case : Recording) → IsRecording case → net.header ≡ case.header → IsWired net }
 {}
 
 /// The lockstep lists are a settled family, and no other is; the same below every key.
 pub fn one_settled_family<S>()
-    ensures lockstep_is { (net : Network S) (feed : List External) → IsTimed net.header → IsFeedOf net.header feed → IsSettled net feed (lockstep net feed) }
-    ensures no_other_is { (net : Network S) (feed : List External) → IsTimed net.header → IsFeedOf net.header feed → (f : Family) → IsSettled net feed f → AreSame net feed f (lockstep net feed) }
-    ensures lockstep_is_below { (net : Network S) (feed : List External) → IsTimed net.header → IsFeedOf net.header feed → (bound : Key) → IsSettledBelow net feed bound (lockstep net feed) }
-    ensures no_other_is_below { (net : Network S) (feed : List External) → IsTimed net.header → IsFeedOf net.header feed → (bound : Key) (f : Family) → IsSettledBelow net feed bound f → (r : ℕ) → r < routers net → below bound (f r) ≡ below bound (lockstep net feed r) }
+    ensures lockstep_is { (net : Network S) (feed : List External) → IsTimed net.header → IsFeedOf net.header feed →
+        IsSettled net feed (lockstep net feed) }
+    ensures no_other_is { (net : Network S) (feed : List External) → IsTimed net.header → IsFeedOf net.header feed →
+        (f : Family) → IsSettled net feed f → AreSame net feed f (lockstep net feed) }
+    ensures lockstep_is_below { (net : Network S) (feed : List External) → IsTimed net.header →
+        IsFeedOf net.header feed → (bound : Key) → IsSettledBelow net feed bound (lockstep net feed) }
+    ensures no_other_is_below { (net : Network S) (feed : List External) → IsTimed net.header →
+        IsFeedOf net.header feed → (bound : Key) (f : Family) → IsSettledBelow net feed bound f → (r : ℕ) →
+        r < routers net → below bound (f r) ≡ below bound (lockstep net feed r) }
 {}
 
 /// The rows of a family that is settled below a key are the lockstep rows below it, and these begin the
 /// lockstep rows.
 pub fn rows_below_a_key<S>()
-    ensures same { (net : Network S) (feed : List External) → IsTimed net.header → IsFeedOf net.header feed → (bound : Key) (f : Family) → IsSettledBelow net feed bound f → sorted (joined (routers net) (λ r. below bound (f r))) ≡ below bound (rows net feed) }
-    ensures front { (net : Network S) (feed : List External) → IsTimed net.header → IsFeedOf net.header feed → (bound : Key) → IsPrefixOf (below bound (rows net feed)) (rows net feed) }
+    ensures same { (net : Network S) (feed : List External) → IsTimed net.header → IsFeedOf net.header feed →
+        (bound : Key) (f : Family) → IsSettledBelow net feed bound f →
+        sorted (joined (routers net) (λ r. below bound (f r))) ≡ below bound (rows net feed) }
+    ensures front { (net : Network S) (feed : List External) → IsTimed net.header → IsFeedOf net.header feed →
+        (bound : Key) → IsPrefixOf (below bound (rows net feed)) (rows net feed) }
 {}
 
 /// Whoever handles the least of what waits, again and again, handles the lockstep rows, one by one.
 pub fn rows_one_by_one<S>()
     ensures first { (net : Network S) (feed : List External) → IsRunSoFar net feed [] (all_injected net feed) }
-    ensures in_any_order { (net : Network S) (feed : List External) (done waiting other : List Event) → IsRunSoFar net feed done waiting → IsPermutation waiting other → IsRunSoFar net feed done other }
-    ensures onward { (net : Network S) (feed : List External) → IsTimed net.header → IsWired net → IsFeedOf net.header feed → (done waiting rest : List Event) (e : Event) → IsRunSoFar net feed done waiting → IsPermutation waiting (e ∷ rest) → AllByRecursion (λ w. is_gt (event_cmp e w) ≡ false) rest → IsRunSoFar net feed (done ++ e ∷ []) (rest ++ next_emitted net done e) }
-    ensures next { (net : Network S) (feed : List External) → IsTimed net.header → IsFeedOf net.header feed → (done waiting rest : List Event) (e : Event) → IsRunSoFar net feed done waiting → IsPermutation waiting (e ∷ rest) → AllByRecursion (λ w. is_gt (event_cmp e w) ≡ false) rest → IsPrefixOf (done ++ e ∷ []) (rows net feed) }
-    ensures last { (net : Network S) (feed : List External) → IsTimed net.header → IsFeedOf net.header feed → (done : List Event) → IsRunSoFar net feed done [] → rows net feed ≡ done }
+    ensures in_any_order { (net : Network S) (feed : List External) (done waiting other : List Event) →
+        IsRunSoFar net feed done waiting → IsPermutation waiting other → IsRunSoFar net feed done other }
+    ensures onward { (net : Network S) (feed : List External) → IsTimed net.header → IsWired net →
+        IsFeedOf net.header feed → (done waiting rest : List Event) (e : Event) → IsRunSoFar net feed done waiting →
+        IsPermutation waiting (e ∷ rest) → AllByRecursion (λ w. is_gt (event_cmp e w) ≡ false) rest →
+        IsRunSoFar net feed (done ++ e ∷ []) (rest ++ next_emitted net done e) }
+    ensures next { (net : Network S) (feed : List External) → IsTimed net.header → IsFeedOf net.header feed →
+        (done waiting rest : List Event) (e : Event) → IsRunSoFar net feed done waiting →
+        IsPermutation waiting (e ∷ rest) → AllByRecursion (λ w. is_gt (event_cmp e w) ≡ false) rest →
+        IsPrefixOf (done ++ e ∷ []) (rows net feed) }
+    ensures last { (net : Network S) (feed : List External) → IsTimed net.header → IsFeedOf net.header feed →
+        (done : List Event) → IsRunSoFar net feed done [] → rows net feed ≡ done }
 {}
 
 /// Each message below a key was sent, in the part of its origin's history below the key, as often as it
 /// stands in its own router's.
 pub fn messages_were_sent<S>()
-    ensures { (net : Network S) (feed : List External) (bound : Key) (f : Family) → IsSettledBelow net feed bound f → ((s : ℕ) → s < routers net → AllByRecursion (λ x. x.router ≡ s) (f s)) → (e : Event) → e.key.class ≡ 2 → is_below bound e ≡ true → e.router < routers net → e.key.origin < routers net → count_by (λ x. is_eq (event_cmp e x)) (below bound (f e.router)) ≡ count_by (λ x. is_eq (event_cmp e x)) (sent net e.key.origin (below bound (f e.key.origin))) }
+    ensures { (net : Network S) (feed : List External) (bound : Key) (f : Family) →
+        IsSettledBelow net feed bound f → ((s : ℕ) → s < routers net → AllByRecursion (λ x. x.router ≡ s) (f s)) →
+        (e : Event) → e.key.class ≡ 2 → is_below bound e ≡ true → e.router < routers net →
+        e.key.origin < routers net → count_by (λ x. is_eq (event_cmp e x)) (below bound (f e.router)) ≡
+        count_by (λ x. is_eq (event_cmp e x)) (sent net e.key.origin (below bound (f e.key.origin))) }
 {}

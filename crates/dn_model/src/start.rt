@@ -17,7 +17,11 @@ pub fn opening<G: Guest>(
     guest: G,
 ) -> Result<Node<G>, NoMemory>
     requires { router < length header.now.routers }
-    ensures { IfOk result (λ made. made ≡ record { guest = guest; ports = 2 ^ ports_of header.now.links router - 1; sends = 0 }) }
+    ensures { IfOk result (λ made. made ≡ record {
+      guest = guest;
+      ports = 2 ^ ports_of header.now.links router - 1;
+      sends = 0;
+    }) }
 {
     let count = ends(alloc, header, router)?.len();
     Ok(Node {

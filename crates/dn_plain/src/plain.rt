@@ -48,7 +48,9 @@ impl<G: Guest> PlainEngine<G> {
         guests: Vec<G>,
     ) -> Result<PlainEngine<G>, NoMemory>
         requires { length guests.items ≡ length case.now.header.routers }
-        ensures { IfOk result (λ made. (net : Network G) → net.header ≡ case.now.header → net.guests ≡ G.meaning → ((r : ℕ) → r < routers net → slice_get guests.items r ≡ Some (net.opening r)) → StandsIn net case.now.feed made) }
+        ensures { IfOk result (λ made. (net : Network G) → net.header ≡ case.now.header → net.guests ≡ G.meaning →
+            ((r : ℕ) → r < routers net → slice_get guests.items r ≡ Some (net.opening r)) →
+            StandsIn net case.now.feed made) }
     {
         let header = case.header.copy(alloc)?;
         let nodes = opening_nodes(alloc, &header, guests)?;
@@ -65,8 +67,11 @@ impl<G: Guest> PlainEngine<G> {
 
     /// Handles the next row, unless there is none or the row limit is reached.
     pub(crate) fn next(&mut self, alloc: Global) -> Result<Next, NoMemory>
-        ensures answer { (net : Network G) (feed : List External) → net.guests ≡ G.meaning → StandsIn net feed self.old → IfOk result (λ answer. answer ≡ answer_after self.old.place (rows net feed)) }
-        ensures moved { (net : Network G) (feed : List External) → net.guests ≡ G.meaning → StandsIn net feed self.old → IfOk result (λ answer. HasMoved net feed self.old answer self.new) }
+        ensures answer { (net : Network G) (feed : List External) → net.guests ≡ G.meaning →
+            StandsIn net feed self.old →
+            IfOk result (λ answer. answer ≡ answer_after self.old.place (rows net feed)) }
+        ensures moved { (net : Network G) (feed : List External) → net.guests ≡ G.meaning →
+            StandsIn net feed self.old → IfOk result (λ answer. HasMoved net feed self.old answer self.new) }
         ensures spent { OnErr result (self.new.spent ≡ true) }
         ensures stays_spent { self.old.spent ≡ true → IsErr result }
     {
@@ -165,7 +170,8 @@ fn place_of_least(events: &[Event]) -> usize
 
 /// All that is injected: the externals, and each router's ticks.
 fn all_injected(alloc: Global, header: &Header, feed: &[External]) -> Result<Vec<Event>, NoMemory>
-    ensures { IfOk result (λ made. made.items ≡ externals 0 feed.now ++ later_ticks 0 header.now.groups (length header.now.routers)) }
+    ensures { IfOk result (λ made. made.items ≡ externals 0 feed.now ++
+        later_ticks 0 header.now.groups (length header.now.routers)) }
 {
     let mut made = all_externals(alloc, feed)?;
     let routers = header.routers.as_slice().len() as u16;

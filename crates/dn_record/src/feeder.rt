@@ -36,7 +36,8 @@ pub trait Feeder {
     fn next(&mut self, alloc: Global) -> Result<Fed, NoMemory>
         requires open { closed self.old ≡ false }
         ensures comes { comes self.old self.new }
-        ensures ok { IfOk result (λ fed. HasGiven (header self.old) (given self.old) fed (given self.new) (closed self.new)) }
+        ensures ok { IfOk result (λ fed. HasGiven (header self.old) (given self.old) fed (given self.new)
+            (closed self.new)) }
         ensures err { OnErr result ((given self.new ≡ given self.old) × (closed self.new ≡ false)) };
 
     ghost comes_from_itself: { (x : Self) → comes x x };

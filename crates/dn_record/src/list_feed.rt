@@ -71,7 +71,8 @@ impl Feeder for ListFeed {
     fn next(&mut self, alloc: Global) -> Result<Fed, NoMemory>
         requires open { self.old.closed ≡ false }
         ensures comes { ComesFrom self.old self.new }
-        ensures ok { IfOk result (λ fed. HasGiven self.old.header (given_of self.old) fed (given_of self.new) self.new.closed) }
+        ensures ok { IfOk result (λ fed. HasGiven self.old.header (given_of self.old) fed
+            (given_of self.new) self.new.closed) }
         ensures err { OnErr result ((given_of self.new ≡ given_of self.old) × (self.new.closed ≡ false)) }
         ensures closed { IfOk result (λ fed. fed ≡ Closed → self.old.place ≡ length self.old.feed) }
         ensures last { self.old.place ≡ length self.old.feed → result ≡ Ok Closed }

@@ -65,7 +65,8 @@ fn first_later(done: &[Event], queue: &InQueue) -> usize
 /// before the first that passes it.
 fn first_voided(done: &[Event], voids: &[Event], most: usize) -> usize
     requires { IsSorted event_cmp done.now }
-    ensures { (test : Event → Bool) → most ≡ length (until test done.now) → result ≡ length (until (λ e. stands e voids.now || test e) done.now) }
+    ensures { (test : Event → Bool) → most ≡ length (until test done.now) →
+        result ≡ length (until (λ e. stands e voids.now || test e) done.now) }
 {
     let mut place = most;
     for void in voids {

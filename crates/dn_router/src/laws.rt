@@ -18,10 +18,17 @@ ghost use Rattle.dn_router.specs.Routers.{staying, taken_back};
 /// A router with the number r, the far ends and the timing of a network and the network's opening node has
 /// the network's nodes, and its sendings are the network's, where each event is at the router.
 pub fn of_a_network<S>()
-    ensures node { (net : Network S) (r : ℕ) (history : List Event) → node_over net.guests (opening_node net r) history ≡ state net r history }
-    ensures node_from { (net : Network S) (node : Node S) (history : List Event) → node_over net.guests node history ≡ state_from net node history }
-    ensures emits { (net : Network S) (r : ℕ) (history : List Event) (e : Event) → e.router ≡ r → emitted_at net.guests (timing_of net.header) (ends net.header.links r) (state net r history) e ≡ emits net r history e }
-    ensures sent { (net : Network S) (r : ℕ) (node : Node S) (history : List Event) → AllByRecursion (λ e. e.router ≡ r) history → emitted_over net.guests (timing_of net.header) (ends net.header.links r) node history ≡ sent_from net node history }
+    ensures node { (net : Network S) (r : ℕ) (history : List Event) →
+        node_over net.guests (opening_node net r) history ≡ state net r history }
+    ensures node_from { (net : Network S) (node : Node S) (history : List Event) →
+        node_over net.guests node history ≡ state_from net node history }
+    ensures emits { (net : Network S) (r : ℕ) (history : List Event) (e : Event) → e.router ≡ r →
+        emitted_at net.guests (timing_of net.header) (ends net.header.links r) (state net r history) e ≡
+        emits net r history e }
+    ensures sent { (net : Network S) (r : ℕ) (node : Node S) (history : List Event) →
+        AllByRecursion (λ e. e.router ≡ r) history →
+        emitted_over net.guests (timing_of net.header) (ends net.header.links r) node history ≡
+        sent_from net node history }
     ensures staying { (net : Network S) (p : Part) → staying p ≡ kept net p }
     ensures taken { (net : Network S) (p : Part) → taken_back p ≡ taken_off net p }
 {}

@@ -70,7 +70,15 @@ impl<G: Guest> Router<G> {
         node: Node<G>,
     ) -> Result<Router<G>, NoMemory>
         requires { 0 < timing.period }
-        ensures { IfOk result (λ made. made ≡ record { number = number; ends = ends.items; timing = timing; opening = node; part = no_part; committed = 0; bound = key_of 0 0 }) }
+        ensures { IfOk result (λ made. made ≡ record {
+          number = number;
+          ends = ends.items;
+          timing = timing;
+          opening = node;
+          part = no_part;
+          committed = 0;
+          bound = key_of 0 0;
+        }) }
     {
         let opening = node.fork(alloc)?;
         let shelf = Shelf::new(alloc, node)?;
@@ -101,7 +109,8 @@ impl<G: Guest> Router<G> {
     pub fn arrive(&mut self, plus: bool, event: Event) -> Result<(), NoMemory>
         requires own { event.router ≡ self.old.number }
         requires past { IsPast self.old.bound event.key }
-        ensures ok { OnOk result (self.new ≡ record self.old { part = arrived (record { plus = plus; event = event }) self.old.part }) }
+        ensures ok { OnOk result (self.new ≡
+            record self.old { part = arrived (record { plus = plus; event = event }) self.old.part }) }
         ensures err { OnErr result (self.new ≡ self.old) }
     {
         let handled = stands(self.done.as_slice(), &event);
@@ -224,9 +233,11 @@ impl<G: Guest> Router<G> {
     pub fn commit_below(&mut self, key: &Key) -> Result<Vec<Row>, NoMemory>
         requires waiting { AllByRecursion (λ e. IsPast key.now e.key) (self.old.part.todo ++ self.old.part.voids) }
         requires rising { IsPast self.old.bound key.now }
-        ensures committed { OnOk result (self.new ≡ record self.old { committed = length (below key.now self.old.part.done); bound = key.now }) }
+        ensures committed { OnOk result (self.new ≡
+            record self.old { committed = length (below key.now self.old.part.done); bound = key.now }) }
         ensures rows { IfOk result (λ rows. rows.items ≡ drop self.old.committed (below key.now self.old.part.done)) }
-        ensures fresh { IfOk result (λ rows. rows.items ≡ filter (λ e. not (is_below self.old.bound e)) (below key.now self.old.part.done)) }
+        ensures fresh { IfOk result (λ rows. rows.items ≡
+            filter (λ e. not (is_below self.old.bound e)) (below key.now self.old.part.done)) }
         ensures err { OnErr result (self.new ≡ self.old) }
     {
         let count = count_below(self.done.as_slice(), key);

@@ -62,7 +62,8 @@ fn pairs(alloc: Global, field: &[u8]) -> Result<Option<Bytes>, NoMemory>
 pub fn unhex(alloc: Global, field: &[u8]) -> Result<Option<Bytes>, NoMemory>
     ensures value { IfOk result (λ found. found ≡ unhex field.now) }
     // They are the bytes whose digits the field is.
-    ensures spelled { IfOk result (λ found. (bytes : List ℕ) → 0 < length bytes → AllByRecursion (λ byte. byte < 256) bytes → ((found ≡ Some bytes) ↔ (field.now ≡ hex bytes))) }
+    ensures spelled { IfOk result (λ found. (bytes : List ℕ) → 0 < length bytes →
+        AllByRecursion (λ byte. byte < 256) bytes → ((found ≡ Some bytes) ↔ (field.now ≡ hex bytes))) }
 {
     if field.is_empty() {
         return Ok(None);

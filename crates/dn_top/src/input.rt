@@ -31,7 +31,8 @@ pub(crate) fn read_given<S: Source>(alloc: Global, source: &mut S) -> Result<Giv
     ensures case { IfOk result (λ given. HasCase given.input.items given.case given.size) }
     ensures within { IfOk result (λ given. given.size ≤ length given.input.items) }
     ensures all { IfOk result (λ given. GaveAll given.input.items (S.left source.old) (S.left source.new)) }
-    ensures refusal { IfErr result (λ status. Refuses status (S.left source.old) (S.left source.new) (S.faults source.old) (S.faults source.new)) }
+    ensures refusal { IfErr result (λ status. Refuses status (S.left source.old) (S.left source.new)
+        (S.faults source.old) (S.faults source.new)) }
 {
     let input = read_input(alloc, source)?;
     match first_case(alloc, input.as_slice()) {
@@ -47,10 +48,14 @@ fn read_input<S: Source>(alloc: Global, source: &mut S) -> Result<Vec<u8>, Statu
     ensures none_left { OnOk result (IfSome (S.left source.new) (λ left. left ≡ [])) }
     ensures small { IfOk result (λ all. length all.items ≤ input_limit) }
     ensures refusal { IfErr result (λ status. is_of_reading status ≡ true) }
-    ensures fault { IfErr result (λ status. status ≡ Status.ReadFault → Rose (S.faults source.old) (S.faults source.new)) }
-    ensures too_big { IfErr result (λ status. status ≡ Status.TooBig → Gives (S.left source.old) (S.left source.new) (λ came. input_limit < length came)) }
-    ensures too_long { IfErr result (λ status. status ≡ Status.TooBig → IfSome (S.left source.old) (λ left. input_limit < length left)) }
-    ensures not_too_big { IfErr result (λ status. status ≢ Status.TooBig → Gives (S.left source.old) (S.left source.new) (λ came. length came ≤ input_limit)) }
+    ensures fault { IfErr result (λ status. status ≡ Status.ReadFault →
+        Rose (S.faults source.old) (S.faults source.new)) }
+    ensures too_big { IfErr result (λ status. status ≡ Status.TooBig →
+        Gives (S.left source.old) (S.left source.new) (λ came. input_limit < length came)) }
+    ensures too_long { IfErr result (λ status. status ≡ Status.TooBig →
+        IfSome (S.left source.old) (λ left. input_limit < length left)) }
+    ensures not_too_big { IfErr result (λ status. status ≢ Status.TooBig →
+        Gives (S.left source.old) (S.left source.new) (λ came. length came ≤ input_limit)) }
 {
     match read_all(alloc, source, MOST_INPUT) {
         Ok(input) => Ok(input),

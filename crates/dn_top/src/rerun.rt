@@ -137,7 +137,8 @@ fn replayed(
 
 /// Takes the steps, and writes what they come to.
 fn rerun_steps<K: Sink>(alloc: Global, case: &Case, steps: &[Step], sink: &mut K) -> Status
-    ensures answers { Drives case.now (outcome_of case.now steps.now) (written case.now) result (K.holds sink.old) (K.holds sink.new) }
+    ensures answers { Drives case.now (outcome_of case.now steps.now) (written case.now) result (K.holds sink.old)
+        (K.holds sink.new) }
     ensures fault { result ≡ Status.WriteFault → Rose (K.faults sink.old) (K.faults sink.new) }
     ensures later { K.faults sink.old ≤ K.faults sink.new }
 {

@@ -52,7 +52,8 @@ pub(crate) fn shake_case<K: Sink>(
     case: &Case,
     sink: &mut K,
 ) -> Status
-    ensures answers { Drives case.now (outcome_of case.now (steps_of case.now schedule)) (shaken case.now (steps_of case.now schedule)) result (K.holds sink.old) (K.holds sink.new) }
+    ensures answers { Drives case.now (outcome_of case.now (steps_of case.now schedule))
+        (shaken case.now (steps_of case.now schedule)) result (K.holds sink.old) (K.holds sink.new) }
     ensures rules { IsRecording case.now }
     ensures legal { is_illegal result ≡ false }
     ensures fault { result ≡ Status.WriteFault → Rose (K.faults sink.old) (K.faults sink.new) }
@@ -79,7 +80,8 @@ fn write_shake<K: Sink>(
     requires of { IsFabricOf case.now fabric.now }
     requires stands { StandsAt (network_of case.now.header) case.now.feed ended fabric.now }
     requires legal { IsLegalEnd ended }
-    ensures answers { Drives case.now ended (shaken case.now fabric.now.journal) result (K.holds sink.old) (K.holds sink.new) }
+    ensures answers { Drives case.now ended (shaken case.now fabric.now.journal) result (K.holds sink.old)
+        (K.holds sink.new) }
     ensures legal { is_illegal result ≡ false }
     ensures fault { result ≡ Status.WriteFault → Rose (K.faults sink.old) (K.faults sink.new) }
     ensures later { K.faults sink.old ≤ K.faults sink.new }
@@ -102,7 +104,8 @@ fn write_shaken<K: Sink>(
     requires of { IsFabricOf case.now fabric.now }
     requires same { case.now.header ≡ header.now }
     requires shows { ShowsCase case.now fabric.now }
-    ensures answers { Writes case.now (shaken case.now fabric.now.journal) result (K.holds sink.old) (K.holds sink.new) }
+    ensures answers { Writes case.now (shaken case.now fabric.now.journal) result (K.holds sink.old)
+        (K.holds sink.new) }
     ensures fault { result ≡ Status.WriteFault → Rose (K.faults sink.old) (K.faults sink.new) }
     ensures later { K.faults sink.old ≤ K.faults sink.new }
 {

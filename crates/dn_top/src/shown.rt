@@ -39,7 +39,8 @@ fn push_states(
     requires of { IsFabricOf case.now fabric.now }
     requires same { case.now.header.routers ≡ routers.now }
     requires few { length routers.now ≤ 64 }
-    ensures { OnOk result (out.new ≡ out.old ++ state_lines any routers.now (λ r. state (network_of case.now.header) r (part fabric.now.live.world r).done) (length routers.now)) }
+    ensures { OnOk result (out.new ≡ out.old ++
+        state_lines any routers.now (λ r. state (network_of case.now.header) r (part fabric.now.live.world r).done) (length routers.now)) }
 {
     for router in 0..routers.len() {
         let number = router as u16;

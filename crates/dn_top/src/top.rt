@@ -30,7 +30,9 @@ pub fn defined_top<S: Source, K: Sink>(
     source: &mut S,
     sink: &mut K,
 ) -> Status
-    ensures { Promise (command_of (map string_bytes words.now)) result (streams (S.left source.old) (S.faults source.old) (K.holds sink.old) (K.faults sink.old)) (streams (S.left source.new) (S.faults source.new) (K.holds sink.new) (K.faults sink.new)) }
+    ensures { Promise (command_of (map string_bytes words.now)) result
+        (streams (S.left source.old) (S.faults source.old) (K.holds sink.old) (K.faults sink.old))
+        (streams (S.left source.new) (S.faults source.new) (K.holds sink.new) (K.faults sink.new)) }
 {
     match command_of(words) {
         Some(command) => obey(alloc, command, source, sink),
@@ -46,7 +48,9 @@ pub fn defined_plain<S: Source, K: Sink>(
     source: &mut S,
     sink: &mut K,
 ) -> Status
-    ensures { Promise (plain_of (command_of (map string_bytes words.now))) result (streams (S.left source.old) (S.faults source.old) (K.holds sink.old) (K.faults sink.old)) (streams (S.left source.new) (S.faults source.new) (K.holds sink.new) (K.faults sink.new)) }
+    ensures { Promise (plain_of (command_of (map string_bytes words.now))) result
+        (streams (S.left source.old) (S.faults source.old) (K.holds sink.old) (K.faults sink.old))
+        (streams (S.left source.new) (S.faults source.new) (K.holds sink.new) (K.faults sink.new)) }
 {
     match plain_of(command_of(words)) {
         Some(plain) => obey(alloc, plain, source, sink),
@@ -57,7 +61,9 @@ pub fn defined_plain<S: Source, K: Sink>(
 /// Does what the command asks: reads the input and the case at its front, and lets the command go on
 /// from there.
 fn obey<S: Source, K: Sink>(alloc: Global, command: Command, source: &mut S, sink: &mut K) -> Status
-    ensures { Promise (Some command) result (streams (S.left source.old) (S.faults source.old) (K.holds sink.old) (K.faults sink.old)) (streams (S.left source.new) (S.faults source.new) (K.holds sink.new) (K.faults sink.new)) }
+    ensures { Promise (Some command) result (streams (S.left source.old) (S.faults source.old) (K.holds sink.old)
+        (K.faults sink.old)) (streams (S.left source.new) (S.faults source.new) (K.holds sink.new)
+        (K.faults sink.new)) }
 {
     match read_given(alloc, source) {
         Ok(given) => answer(alloc, command, &given, sink),
@@ -69,7 +75,8 @@ fn obey<S: Source, K: Sink>(alloc: Global, command: Command, source: &mut S, sin
 fn answer<K: Sink>(alloc: Global, command: Command, given: &Given, sink: &mut K) -> Status
     requires has { HasCase given.now.input.items given.now.case given.now.size }
     requires within { given.now.size ≤ length given.now.input.items }
-    ensures { Fulfils command given.now.input.items result (K.holds sink.old) (K.holds sink.new) (K.faults sink.old) (K.faults sink.new) }
+    ensures { Fulfils command given.now.input.items result (K.holds sink.old) (K.holds sink.new) (K.faults sink.old)
+        (K.faults sink.new) }
 {
     ends();
     let input = given.input.as_slice();

@@ -145,7 +145,8 @@ pub(crate) fn guests_of(alloc: Global, case: &Case) -> Result<Vec<AnyGuest>, NoM
 
 /// The guests of the routers, in order.
 fn made_guests(alloc: Global, header: &Header) -> Result<Vec<AnyGuest>, NoMemory>
-    ensures { IfOk result (λ guests. guests.items ≡ map (λ r. opening_guest header.now r) (range_with_len 0 (length header.now.routers))) }
+    ensures { IfOk result (λ guests. guests.items ≡
+        map (λ r. opening_guest header.now r) (range_with_len 0 (length header.now.routers))) }
 {
     let count = header.routers.as_slice().len() as u16;
     let mut guests = Vec::new(alloc);

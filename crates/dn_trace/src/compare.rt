@@ -31,9 +31,13 @@ pub fn check<G: Guest>(
     section: &[u8],
 ) -> Result<Checked, NoMemory>
     requires { length guests.items ≡ length case.now.header.routers }
-    ensures equal { (net : Network G) → IsRunOf net G.meaning case.now.header guests.items → result ≡ Ok Checked.Equal → (section.now ≡ trace_text net case.now.feed) × (is_cut net case.now.feed ≡ false) }
-    ensures cut { (net : Network G) → IsRunOf net G.meaning case.now.header guests.items → result ≡ Ok Checked.Cut → (section.now ≡ trace_text net case.now.feed) × (is_cut net case.now.feed ≡ true) }
-    ensures differs { (net : Network G) → IsRunOf net G.meaning case.now.header guests.items → (place : ℕ) → result ≡ Ok (Checked.Differs place) → DiffersAt section.now (trace_text net case.now.feed) place }
+    ensures equal { (net : Network G) → IsRunOf net G.meaning case.now.header guests.items →
+        result ≡ Ok Checked.Equal → (section.now ≡ trace_text net case.now.feed) ×
+        (is_cut net case.now.feed ≡ false) }
+    ensures cut { (net : Network G) → IsRunOf net G.meaning case.now.header guests.items → result ≡ Ok Checked.Cut →
+        (section.now ≡ trace_text net case.now.feed) × (is_cut net case.now.feed ≡ true) }
+    ensures differs { (net : Network G) → IsRunOf net G.meaning case.now.header guests.items → (place : ℕ) →
+        result ≡ Ok (Checked.Differs place) → DiffersAt section.now (trace_text net case.now.feed) place }
 {
     let mut trace = TraceText::new(alloc, case, guests)?;
     let routers = case.header.routers.as_slice();

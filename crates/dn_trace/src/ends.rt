@@ -47,7 +47,8 @@ fn push_states<G: Guest>(
 ) -> Result<(), NoMemory>
     requires same { engine.now.header.routers ≡ routers.now }
     requires few { length routers.now ≤ 64 }
-    ensures { OnOk result (out.new ≡ out.old ++ node_lines G.meaning routers.now engine.now.nodes (length routers.now)) }
+    ensures { OnOk result (out.new ≡ out.old ++
+        node_lines G.meaning routers.now engine.now.nodes (length routers.now)) }
 {
     for router in 0..routers.len() {
         let number = router as u16;
@@ -91,7 +92,8 @@ pub(crate) fn push_last_lines<G: Guest>(
     requires rows { rows ≡ engine.now.place }
     requires same { engine.now.header.routers ≡ routers.now }
     requires few { length routers.now ≤ 64 }
-    ensures { (net : Network G) (feed : List External) → net.guests ≡ G.meaning → net.header ≡ engine.now.header → IsAtEnd net feed engine.now → OnOk result (out.new ≡ out.old ++ last_lines net feed) }
+    ensures { (net : Network G) (feed : List External) → net.guests ≡ G.meaning → net.header ≡ engine.now.header →
+        IsAtEnd net feed engine.now → OnOk result (out.new ≡ out.old ++ last_lines net feed) }
 {
     push_states(alloc, engine, routers, out)?;
     push_end_line(rows, out)?;

@@ -24,9 +24,12 @@ pub fn write_trace<G: Guest, K: Sink>(
     sink: &mut K,
 ) -> Result<Ending, WriteError>
     requires { length guests.items ≡ length case.now.header.routers }
-    ensures whole { (net : Network G) → IsRunOf net G.meaning case.now.header guests.items → OnOk result (K.holds sink.new ≡ behind (K.holds sink.old) (trace_text net case.now.feed)) }
-    ensures ending { (net : Network G) → IsRunOf net G.meaning case.now.header guests.items → IfOk result (EndsAs net case.now.feed) }
-    ensures front { (net : Network G) → IsRunOf net G.meaning case.now.header guests.items → PutsFront (K.holds sink.old) (K.holds sink.new) (trace_text net case.now.feed) }
+    ensures whole { (net : Network G) → IsRunOf net G.meaning case.now.header guests.items →
+        OnOk result (K.holds sink.new ≡ behind (K.holds sink.old) (trace_text net case.now.feed)) }
+    ensures ending { (net : Network G) → IsRunOf net G.meaning case.now.header guests.items →
+        IfOk result (EndsAs net case.now.feed) }
+    ensures front { (net : Network G) → IsRunOf net G.meaning case.now.header guests.items →
+        PutsFront (K.holds sink.old) (K.holds sink.new) (trace_text net case.now.feed) }
     ensures fault { IsErrOf result WriteError.Fault → Rose (K.faults sink.old) (K.faults sink.new) }
     ensures later { K.faults sink.old ≤ K.faults sink.new }
 {

@@ -41,7 +41,8 @@ impl<G: Guest> TraceText<G> {
     /// The trace of the case's lockstep run with these guests, of which nothing has come.
     pub(crate) fn new(alloc: Global, case: &Case, guests: Vec<G>) -> Result<TraceText<G>, NoMemory>
         requires { length guests.items ≡ length case.now.header.routers }
-        ensures stands { IfOk result (λ made. (net : Network G) → IsRunOf net G.meaning case.now.header guests.items → StandsIn net case.now.feed made.engine) }
+        ensures stands { IfOk result (λ made. (net : Network G) →
+            IsRunOf net G.meaning case.now.header guests.items → StandsIn net case.now.feed made.engine) }
         ensures place { IfOk result (λ made. made.engine.place ≡ 0) }
         ensures opening { IfOk result (λ made. made.stage ≡ Stage.Opening) }
         ensures header { IfOk result (λ made. made.engine.header ≡ case.now.header) }
@@ -72,10 +73,17 @@ impl<G: Guest> TraceText<G> {
     ) -> Result<(), NoMemory>
         requires same { self.old.engine.header.routers ≡ routers.now }
         requires few { length routers.now ≤ 64 }
-        ensures text { (net : Network G) (feed : List External) → net.guests ≡ G.meaning → net.header ≡ self.old.engine.header → StandsIn net feed self.old.engine → OnOk result (out.new ++ to_come net feed self.new.stage self.new.engine.place ≡ out.old ++ to_come net feed self.old.stage self.old.engine.place) }
-        ensures stands { (net : Network G) (feed : List External) → net.guests ≡ G.meaning → StandsIn net feed self.old.engine → OnOk result (StandsIn net feed self.new.engine) }
-        ensures ending { (net : Network G) (feed : List External) → net.guests ≡ G.meaning → StandsIn net feed self.old.engine → EndsRightly net feed self.old.stage → OnOk result (EndsRightly net feed self.new.stage) }
-        ensures onward { OnOk result (0 < steps_left self.old.stage self.old.engine.place → steps_left self.new.stage self.new.engine.place < steps_left self.old.stage self.old.engine.place) }
+        ensures text { (net : Network G) (feed : List External) → net.guests ≡ G.meaning →
+            net.header ≡ self.old.engine.header → StandsIn net feed self.old.engine →
+            OnOk result (out.new ++ to_come net feed self.new.stage self.new.engine.place ≡ out.old ++
+            to_come net feed self.old.stage self.old.engine.place) }
+        ensures stands { (net : Network G) (feed : List External) → net.guests ≡ G.meaning →
+            StandsIn net feed self.old.engine → OnOk result (StandsIn net feed self.new.engine) }
+        ensures ending { (net : Network G) (feed : List External) → net.guests ≡ G.meaning →
+            StandsIn net feed self.old.engine → EndsRightly net feed self.old.stage →
+            OnOk result (EndsRightly net feed self.new.stage) }
+        ensures onward { OnOk result (0 < steps_left self.old.stage self.old.engine.place →
+            steps_left self.new.stage self.new.engine.place < steps_left self.old.stage self.old.engine.place) }
         ensures header { self.new.engine.header ≡ self.old.engine.header }
     {
         match self.stage {
@@ -100,9 +108,14 @@ impl<G: Guest> TraceText<G> {
         requires same { self.old.engine.header.routers ≡ routers.now }
         requires few { length routers.now ≤ 64 }
         requires rows { self.old.stage ≡ Stage.Rows }
-        ensures text { (net : Network G) (feed : List External) → net.guests ≡ G.meaning → net.header ≡ self.old.engine.header → StandsIn net feed self.old.engine → OnOk result (out.new ++ to_come net feed self.new.stage self.new.engine.place ≡ out.old ++ rows_to_come net feed self.old.engine.place) }
-        ensures stands { (net : Network G) (feed : List External) → net.guests ≡ G.meaning → StandsIn net feed self.old.engine → OnOk result (StandsIn net feed self.new.engine) }
-        ensures ending { (net : Network G) (feed : List External) → net.guests ≡ G.meaning → StandsIn net feed self.old.engine → OnOk result (EndsRightly net feed self.new.stage) }
+        ensures text { (net : Network G) (feed : List External) → net.guests ≡ G.meaning →
+            net.header ≡ self.old.engine.header → StandsIn net feed self.old.engine →
+            OnOk result (out.new ++ to_come net feed self.new.stage self.new.engine.place ≡ out.old ++
+            rows_to_come net feed self.old.engine.place) }
+        ensures stands { (net : Network G) (feed : List External) → net.guests ≡ G.meaning →
+            StandsIn net feed self.old.engine → OnOk result (StandsIn net feed self.new.engine) }
+        ensures ending { (net : Network G) (feed : List External) → net.guests ≡ G.meaning →
+            StandsIn net feed self.old.engine → OnOk result (EndsRightly net feed self.new.stage) }
         ensures onward { OnOk result (steps_left self.new.stage self.new.engine.place < steps_left Stage.Rows self.old.engine.place) }
         ensures header { self.new.engine.header ≡ self.old.engine.header }
     {

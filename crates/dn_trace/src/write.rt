@@ -66,7 +66,8 @@ pub fn write_shown<K: Sink>(
     ends: &Bytes,
     sink: &mut K,
 ) -> Result<(), WriteError>
-    ensures all { OnOk result (K.holds sink.new ≡ behind (K.holds sink.old) (shown_text header.now.routers rows.now ends.now)) }
+    ensures all { OnOk result (K.holds sink.new ≡
+        behind (K.holds sink.old) (shown_text header.now.routers rows.now ends.now)) }
     ensures front { PutsFront (K.holds sink.old) (K.holds sink.new) (shown_text header.now.routers rows.now ends.now) }
     ensures fault { IsErrOf result WriteError.Fault → Rose (K.faults sink.old) (K.faults sink.new) }
     ensures later { K.faults sink.old ≤ K.faults sink.new }
@@ -82,8 +83,10 @@ fn write_rows<K: Sink>(
     rows: &[Row],
     sink: &mut K,
 ) -> Result<(), WriteError>
-    ensures all { OnOk result (K.holds sink.new ≡ behind (K.holds sink.old) (codes "trace\n" ++ row_lines header.now.routers rows.now)) }
-    ensures front { PutsFront (K.holds sink.old) (K.holds sink.new) (codes "trace\n" ++ row_lines header.now.routers rows.now) }
+    ensures all { OnOk result (K.holds sink.new ≡ behind (K.holds sink.old) (codes "trace\n" ++
+        row_lines header.now.routers rows.now)) }
+    ensures front { PutsFront (K.holds sink.old) (K.holds sink.new) (codes "trace\n" ++
+        row_lines header.now.routers rows.now) }
     ensures fault { IsErrOf result WriteError.Fault → Rose (K.faults sink.old) (K.faults sink.new) }
     ensures later { K.faults sink.old ≤ K.faults sink.new }
 {
@@ -102,8 +105,10 @@ pub fn write_state<K: Sink, G: Guest>(
     node: &Node<G>,
     sink: &mut K,
 ) -> Result<(), WriteError>
-    ensures all { OnOk result (K.holds sink.new ≡ behind (K.holds sink.old) (state_line G.meaning header.now.routers router node.now)) }
-    ensures front { PutsFront (K.holds sink.old) (K.holds sink.new) (state_line G.meaning header.now.routers router node.now) }
+    ensures all { OnOk result (K.holds sink.new ≡
+        behind (K.holds sink.old) (state_line G.meaning header.now.routers router node.now)) }
+    ensures front { PutsFront (K.holds sink.old) (K.holds sink.new)
+        (state_line G.meaning header.now.routers router node.now) }
     ensures fault { IsErrOf result WriteError.Fault → Rose (K.faults sink.old) (K.faults sink.new) }
     ensures later { K.faults sink.old ≤ K.faults sink.new }
 {

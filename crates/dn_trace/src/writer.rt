@@ -60,9 +60,11 @@ impl TraceWriter {
         rows: &[Row],
         sink: &mut K,
     ) -> Result<(), WriteError>
-        ensures all { OnOk result (K.holds sink.new ≡ behind (K.holds sink.old) (more_rows header.now.routers self.old rows.now)) }
+        ensures all { OnOk result (K.holds sink.new ≡
+            behind (K.holds sink.old) (more_rows header.now.routers self.old rows.now)) }
         ensures count { OnOk result (self.new ≡ counted self.old rows.now) }
-        ensures front { PutsFront (K.holds sink.old) (K.holds sink.new) (more_rows header.now.routers self.old rows.now) }
+        ensures front { PutsFront (K.holds sink.old) (K.holds sink.new)
+            (more_rows header.now.routers self.old rows.now) }
         ensures fault { IsErrOf result WriteError.Fault → Rose (K.faults sink.old) (K.faults sink.new) }
         ensures later { K.faults sink.old ≤ K.faults sink.new }
     {
@@ -94,7 +96,8 @@ pub(crate) fn put_rows<K: Sink>(
     rows: &[Row],
     sink: &mut K,
 ) -> Result<(), WriteError>
-    ensures all { OnOk result (K.holds sink.new ≡ behind (K.holds sink.old) (text.old ++ row_lines routers.now rows.now)) }
+    ensures all { OnOk result (K.holds sink.new ≡ behind (K.holds sink.old) (text.old ++
+        row_lines routers.now rows.now)) }
     ensures front { PutsFront (K.holds sink.old) (K.holds sink.new) (text.old ++ row_lines routers.now rows.now) }
     ensures fault { IsErrOf result WriteError.Fault → Rose (K.faults sink.old) (K.faults sink.new) }
     ensures later { K.faults sink.old ≤ K.faults sink.new }

@@ -25,7 +25,8 @@ ghost use Rattle.dn_model.specs.Order.{event_cmp};
 /// The rules of a case give the premises of these laws: times pass, there is a group, and the groups of the
 /// feed don't fall. That the externals lie in the groups says `dn_model::laws::cases_are_timed`.
 pub fn playable_cases<S>()
-    ensures playable { (net : Network S) (case : Recording) → IsRecording case → net.header ≡ case.header → IsPlayable net.header }
+    ensures playable { (net : Network S) (case : Recording) → IsRecording case → net.header ≡ case.header →
+        IsPlayable net.header }
     ensures dont_fall { (case : Recording) → IsRecording case → DontFall case.feed }
 {}
 
@@ -42,7 +43,8 @@ pub fn before_the_first_step<S>()
 /// the start, each step that is enabled keeps it, and so it holds after every legal run.
 pub fn equation<S>()
     ensures opening { (net : Network S) → IsBalanced net (opening (routers net)) }
-    ensures step { (net : Network S) (w : World) (s : Step) → is_enabled net w s ≡ true → IsBalanced net w → IsBalanced net (after net w s) }
+    ensures step { (net : Network S) (w : World) (s : Step) → is_enabled net w s ≡ true → IsBalanced net w →
+        IsBalanced net (after net w s) }
     ensures run { (net : Network S) (steps : List Step) → IsLegal net steps → IsBalanced net (world net steps) }
 {}
 
@@ -52,12 +54,22 @@ pub fn equation<S>()
 /// asks of the network.
 pub fn boundary<S>()
     ensures opening { (net : Network S) → IsAllPast net (opening (routers net)).boundary (opening (routers net)) }
-    ensures step { (net : Network S) (w : World) (s : Step) → IsTimed net.header → is_enabled net w s ≡ true → IsBalanced net w → IsAllPast net w.boundary w → IsAllPast net (after net w s).boundary (after net w s) }
-    ensures step_horizon { (net : Network S) (w : World) (s : Step) → IsTimed net.header → is_enabled net w s ≡ true → IsBalanced net w → IsPast (horizon net.header w) (horizon net.header (after net w s)) }
-    ensures step_taken_off { (net : Network S) (w : World) (r : ℕ) → is_enabled net w (RollBack r) ≡ true → IsBalanced net w → IsAllPast net w.boundary w → AllByRecursion (λ e. IsPast w.boundary e.key) (taken_off net (part w r)) }
-    ensures run { (net : Network S) (steps : List Step) → IsTimed net.header → IsLegal net steps → IsAllPast net (world net steps).boundary (world net steps) }
-    ensures run_horizon { (net : Network S) (steps : List Step) (s : Step) → IsTimed net.header → IsLegal net steps → is_enabled net (world net steps) s ≡ true → IsPast (horizon net.header (world net steps)) (horizon net.header (after net (world net steps) s)) }
-    ensures run_taken_off { (net : Network S) (steps : List Step) (r : ℕ) → IsTimed net.header → IsLegal net steps → is_enabled net (world net steps) (RollBack r) ≡ true → AllByRecursion (λ e. IsPast (world net steps).boundary e.key) (taken_off net (part (world net steps) r)) }
+    ensures step { (net : Network S) (w : World) (s : Step) → IsTimed net.header → is_enabled net w s ≡ true →
+        IsBalanced net w → IsAllPast net w.boundary w → IsAllPast net (after net w s).boundary (after net w s) }
+    ensures step_horizon { (net : Network S) (w : World) (s : Step) → IsTimed net.header →
+        is_enabled net w s ≡ true → IsBalanced net w →
+        IsPast (horizon net.header w) (horizon net.header (after net w s)) }
+    ensures step_taken_off { (net : Network S) (w : World) (r : ℕ) → is_enabled net w (RollBack r) ≡ true →
+        IsBalanced net w → IsAllPast net w.boundary w →
+        AllByRecursion (λ e. IsPast w.boundary e.key) (taken_off net (part w r)) }
+    ensures run { (net : Network S) (steps : List Step) → IsTimed net.header → IsLegal net steps →
+        IsAllPast net (world net steps).boundary (world net steps) }
+    ensures run_horizon { (net : Network S) (steps : List Step) (s : Step) → IsTimed net.header →
+        IsLegal net steps → is_enabled net (world net steps) s ≡ true →
+        IsPast (horizon net.header (world net steps)) (horizon net.header (after net (world net steps) s)) }
+    ensures run_taken_off { (net : Network S) (steps : List Step) (r : ℕ) → IsTimed net.header → IsLegal net steps →
+        is_enabled net (world net steps) (RollBack r) ≡ true →
+        AllByRecursion (λ e. IsPast (world net steps).boundary e.key) (taken_off net (part (world net steps) r)) }
 {}
 
 /// What is committed is final. For every case that goes on where the world is, the committed rows are a
@@ -65,29 +77,53 @@ pub fn boundary<S>()
 /// committed state is its lockstep state after as many rows, and a world that has too many rows for a trace
 /// is one of a case that has too many: it has committed just the rows that the trace shows.
 pub fn prefix<S>()
-    ensures rows { (net : Network S) (feed : List External) (steps : List Step) → IsPlayable net.header → IsFeedOf net.header feed → IsLegal net steps → Continues feed (world net steps) → IsPrefixOf (committed net (world net steps)) (rows net feed) }
-    ensures of_router { (net : Network S) (feed : List External) (steps : List Step) (r : ℕ) → IsPlayable net.header → IsFeedOf net.header feed → IsLegal net steps → Continues feed (world net steps) → r < routers net → IsPrefixOf (committed_at net (world net steps) r) (lockstep net feed r) }
-    ensures state { (net : Network S) (feed : List External) (steps : List Step) (r : ℕ) → IsPlayable net.header → IsFeedOf net.header feed → IsLegal net steps → Continues feed (world net steps) → r < routers net → committed_state net (world net steps) r ≡ state net r (take (length (committed_at net (world net steps) r)) (lockstep net feed r)) }
-    ensures cut { (net : Network S) (feed : List External) (steps : List Step) → IsPlayable net.header → IsFeedOf net.header feed → IsLegal net steps → Continues feed (world net steps) → is_cut_off net (world net steps) ≡ true → is_cut net feed ≡ true }
-    ensures cut_rows { (net : Network S) (feed : List External) (steps : List Step) → IsPlayable net.header → IsFeedOf net.header feed → IsLegal net steps → Continues feed (world net steps) → is_cut_off net (world net steps) ≡ true → committed net (world net steps) ≡ shown_rows net feed }
+    ensures rows { (net : Network S) (feed : List External) (steps : List Step) → IsPlayable net.header →
+        IsFeedOf net.header feed → IsLegal net steps → Continues feed (world net steps) →
+        IsPrefixOf (committed net (world net steps)) (rows net feed) }
+    ensures of_router { (net : Network S) (feed : List External) (steps : List Step) (r : ℕ) →
+        IsPlayable net.header → IsFeedOf net.header feed → IsLegal net steps → Continues feed (world net steps) →
+        r < routers net → IsPrefixOf (committed_at net (world net steps) r) (lockstep net feed r) }
+    ensures state { (net : Network S) (feed : List External) (steps : List Step) (r : ℕ) → IsPlayable net.header →
+        IsFeedOf net.header feed → IsLegal net steps → Continues feed (world net steps) → r < routers net →
+        committed_state net (world net steps) r ≡
+        state net r (take (length (committed_at net (world net steps) r)) (lockstep net feed r)) }
+    ensures cut { (net : Network S) (feed : List External) (steps : List Step) → IsPlayable net.header →
+        IsFeedOf net.header feed → IsLegal net steps → Continues feed (world net steps) →
+        is_cut_off net (world net steps) ≡ true → is_cut net feed ≡ true }
+    ensures cut_rows { (net : Network S) (feed : List External) (steps : List Step) → IsPlayable net.header →
+        IsFeedOf net.header feed → IsLegal net steps → Continues feed (world net steps) →
+        is_cut_off net (world net steps) ≡ true → committed net (world net steps) ≡ shown_rows net feed }
 {}
 
 /// No unsent message stands in a committed row. Each committed message is sent in the replay of its
 /// sender's own committed rows, as often as it is committed: at least as often where the trace is cut,
 /// exactly as often where it isn't.
 pub fn unsent<S>()
-    ensures sent { (net : Network S) (steps : List Step) (e : Event) → IsPlayable net.header → IsLegal net steps → e.key.class ≡ 2 → count_by (is_same e) (committed net (world net steps)) ≤ count_by (is_same e) (sent net e.key.origin (committed_at net (world net steps) e.key.origin)) }
-    ensures sent_uncut { (net : Network S) (steps : List Step) (e : Event) → IsPlayable net.header → IsLegal net steps → e.key.class ≡ 2 → is_cut_off net (world net steps) ≡ false → 0 < count_by (is_same e) (committed net (world net steps)) → count_by (is_same e) (committed net (world net steps)) ≡ count_by (is_same e) (sent net e.key.origin (committed_at net (world net steps) e.key.origin)) }
+    ensures sent { (net : Network S) (steps : List Step) (e : Event) → IsPlayable net.header → IsLegal net steps →
+        e.key.class ≡ 2 → count_by (is_same e) (committed net (world net steps)) ≤
+        count_by (is_same e) (sent net e.key.origin (committed_at net (world net steps) e.key.origin)) }
+    ensures sent_uncut { (net : Network S) (steps : List Step) (e : Event) → IsPlayable net.header →
+        IsLegal net steps → e.key.class ≡ 2 → is_cut_off net (world net steps) ≡ false →
+        0 < count_by (is_same e) (committed net (world net steps)) →
+        count_by (is_same e) (committed net (world net steps)) ≡
+        count_by (is_same e) (sent net e.key.origin (committed_at net (world net steps) e.key.origin)) }
 {}
 
 /// A world in which nothing waits or flies is the end of the run. No sending is left to be taken back, each
 /// router has handled its whole lockstep list of the externals that were accepted, and once the boundary is
 /// at the horizon the committed rows are the rows that the lockstep trace shows, cut exactly where it is cut.
 pub fn quiet<S>()
-    ensures voids { (net : Network S) (steps : List Step) (r : ℕ) → IsPlayable net.header → IsLegal net steps → is_quiet (world net steps) ≡ true → r < routers net → (part (world net steps) r).voids ≡ [] }
-    ensures done { (net : Network S) (steps : List Step) (r : ℕ) → IsPlayable net.header → IsLegal net steps → is_quiet (world net steps) ≡ true → r < routers net → (part (world net steps) r).done ≡ lockstep net (world net steps).accepted r }
-    ensures rows { (net : Network S) (steps : List Step) → IsPlayable net.header → IsLegal net steps → is_quiet (world net steps) ≡ true → (world net steps).boundary ≡ horizon net.header (world net steps) → committed net (world net steps) ≡ shown_rows net (world net steps).accepted }
-    ensures cut { (net : Network S) (steps : List Step) → IsPlayable net.header → IsLegal net steps → is_quiet (world net steps) ≡ true → (world net steps).boundary ≡ horizon net.header (world net steps) → is_cut_off net (world net steps) ≡ is_cut net (world net steps).accepted }
+    ensures voids { (net : Network S) (steps : List Step) (r : ℕ) → IsPlayable net.header → IsLegal net steps →
+        is_quiet (world net steps) ≡ true → r < routers net → (part (world net steps) r).voids ≡ [] }
+    ensures done { (net : Network S) (steps : List Step) (r : ℕ) → IsPlayable net.header → IsLegal net steps →
+        is_quiet (world net steps) ≡ true → r < routers net →
+        (part (world net steps) r).done ≡ lockstep net (world net steps).accepted r }
+    ensures rows { (net : Network S) (steps : List Step) → IsPlayable net.header → IsLegal net steps →
+        is_quiet (world net steps) ≡ true → (world net steps).boundary ≡ horizon net.header (world net steps) →
+        committed net (world net steps) ≡ shown_rows net (world net steps).accepted }
+    ensures cut { (net : Network S) (steps : List Step) → IsPlayable net.header → IsLegal net steps →
+        is_quiet (world net steps) ≡ true → (world net steps).boundary ≡ horizon net.header (world net steps) →
+        is_cut_off net (world net steps) ≡ is_cut net (world net steps).accepted }
 {}
 
 /// Runs, one step after another: a legal run goes on by any step that is enabled in its world. The accepted
@@ -95,11 +131,15 @@ pub fn quiet<S>()
 /// on where the world is. A legal run of a case that has closed has accepted the whole feed.
 pub fn runs<S>()
     ensures accepted { (net : Network S) (steps : List Step) → (world net steps).accepted ≡ injects steps }
-    ensures legal { (net : Network S) (steps : List Step) (s : Step) → IsLegal net steps → is_enabled net (world net steps) s ≡ true → IsLegal net (steps ++ s ∷ []) }
-    ensures world { (net : Network S) (steps : List Step) (s : Step) → world net (steps ++ s ∷ []) ≡ after net (world net steps) s }
-    ensures accepted_case { (net : Network S) (steps : List Step) → IsPlayable net.header → IsLegal net steps → IsFeedOf net.header (world net steps).accepted }
+    ensures legal { (net : Network S) (steps : List Step) (s : Step) → IsLegal net steps →
+        is_enabled net (world net steps) s ≡ true → IsLegal net (steps ++ s ∷ []) }
+    ensures world { (net : Network S) (steps : List Step) (s : Step) →
+        world net (steps ++ s ∷ []) ≡ after net (world net steps) s }
+    ensures accepted_case { (net : Network S) (steps : List Step) → IsPlayable net.header → IsLegal net steps →
+        IsFeedOf net.header (world net steps).accepted }
     ensures own_case { (w : World) → Continues w.accepted w }
-    ensures whole_case { (net : Network S) (feed : List External) (steps : List Step) → IsLegalOf net feed steps → (world net steps).closed ≡ true → (world net steps).accepted ≡ feed }
+    ensures whole_case { (net : Network S) (feed : List External) (steps : List Step) → IsLegalOf net feed steps →
+        (world net steps).closed ≡ true → (world net steps).accepted ≡ feed }
 {}
 
 /// What code may keep of a router: in every world what a router has to handle and what it has to take out
@@ -107,23 +147,38 @@ pub fn runs<S>()
 /// each event to handle less those to take out, are one. An event that comes to such a part meets at most one
 /// equal event and leaves with it; otherwise it is put in order. Several come as one after another.
 pub fn tidy_parts<S>()
-    ensures step { (net : Network S) (w : World) (s : Step) → AllByRecursion IsTidy w.parts → AllByRecursion IsTidy (after net w s).parts }
+    ensures step { (net : Network S) (w : World) (s : Step) → AllByRecursion IsTidy w.parts →
+        AllByRecursion IsTidy (after net w s).parts }
     ensures run { (net : Network S) (steps : List Step) → AllByRecursion IsTidy (world net steps).parts }
-    ensures same { (p q : Part) → IsTidy p → IsTidy q → p.done ≡ q.done → ((e : Event) → count_by (is_same e) p.todo + count_by (is_same e) q.voids ≡ count_by (is_same e) q.todo + count_by (is_same e) p.voids) → p ≡ q }
-    ensures todo { (e : Event) (p : Part) → IsTidy p → with_todo (e ∷ []) p ≡ (if stands e p.voids then record p { voids = without e p.voids } else record p { todo = put_in_order event_cmp e p.todo }) }
-    ensures voids { (e : Event) (p : Part) → IsTidy p → with_void e p ≡ (if stands e p.todo then record p { todo = without e p.todo } else record p { voids = put_in_order event_cmp e p.voids }) }
-    ensures one_by_one { (es fs : List Event) (p : Part) → IsTidy p → with_todo (es ++ fs) p ≡ with_todo es (with_todo fs p) }
+    ensures same { (p q : Part) → IsTidy p → IsTidy q → p.done ≡ q.done →
+        ((e : Event) → count_by (is_same e) p.todo + count_by (is_same e) q.voids ≡
+        count_by (is_same e) q.todo + count_by (is_same e) p.voids) → p ≡ q }
+    ensures todo { (e : Event) (p : Part) → IsTidy p →
+        with_todo (e ∷ []) p ≡ (if stands e p.voids then record p { voids = without e p.voids }
+        else record p { todo = put_in_order event_cmp e p.todo }) }
+    ensures voids { (e : Event) (p : Part) → IsTidy p →
+        with_void e p ≡ (if stands e p.todo then record p { todo = without e p.todo }
+        else record p { voids = put_in_order event_cmp e p.voids }) }
+    ensures one_by_one { (es fs : List Event) (p : Part) → IsTidy p →
+        with_todo (es ++ fs) p ≡ with_todo es (with_todo fs p) }
 {}
 
 /// Each step adds the rows that are new below the boundary, in order, and takes none away: where the
 /// boundary stays the rows stay, and what is cut stays cut. A quiet world whose boundary is at the horizon
 /// stays the same world for ever.
 pub fn growth<S>()
-    ensures grow { (net : Network S) (w : World) (s : Step) → is_enabled net w s ≡ true → IsBalanced net w → IsAllPast net w.boundary w → settled_rows net w ++ fresh_rows net w.boundary (after net w s) ≡ settled_rows net (after net w s) }
-    ensures stay { (net : Network S) (w : World) (s : Step) → is_enabled net w s ≡ true → IsBalanced net w → IsAllPast net w.boundary w → (after net w s).boundary ≡ w.boundary → settled_rows net (after net w s) ≡ settled_rows net w }
-    ensures committed { (net : Network S) (w : World) (s : Step) → is_enabled net w s ≡ true → IsBalanced net w → IsAllPast net w.boundary w → IsPrefixOf (committed net w) (committed net (after net w s)) }
-    ensures cut { (net : Network S) (w : World) (s : Step) → is_enabled net w s ≡ true → IsBalanced net w → IsAllPast net w.boundary w → is_cut_off net w ≡ true → is_cut_off net (after net w s) ≡ true }
-    ensures ended { (net : Network S) (w : World) (s : Step) → is_quiet w ≡ true → w.boundary ≡ horizon net.header w → is_enabled net w s ≡ true → after net w s ≡ w }
+    ensures grow { (net : Network S) (w : World) (s : Step) → is_enabled net w s ≡ true → IsBalanced net w →
+        IsAllPast net w.boundary w → settled_rows net w ++ fresh_rows net w.boundary (after net w s) ≡
+        settled_rows net (after net w s) }
+    ensures stay { (net : Network S) (w : World) (s : Step) → is_enabled net w s ≡ true → IsBalanced net w →
+        IsAllPast net w.boundary w → (after net w s).boundary ≡ w.boundary →
+        settled_rows net (after net w s) ≡ settled_rows net w }
+    ensures committed { (net : Network S) (w : World) (s : Step) → is_enabled net w s ≡ true → IsBalanced net w →
+        IsAllPast net w.boundary w → IsPrefixOf (committed net w) (committed net (after net w s)) }
+    ensures cut { (net : Network S) (w : World) (s : Step) → is_enabled net w s ≡ true → IsBalanced net w →
+        IsAllPast net w.boundary w → is_cut_off net w ≡ true → is_cut_off net (after net w s) ≡ true }
+    ensures ended { (net : Network S) (w : World) (s : Step) → is_quiet w ≡ true →
+        w.boundary ≡ horizon net.header w → is_enabled net w s ≡ true → after net w s ≡ w }
 {}
 
 /// The horizon is the one key that is no later than all that waits, all that flies and all that may still
@@ -137,10 +192,14 @@ pub fn horizon<S>()
 /// Replays go on from the node that a prefix of the history leaves, so a kept node at a place serves in place
 /// of the whole replay. What a rollback keeps and what it takes off are the handled list.
 pub fn replays<S>()
-    ensures state { (net : Network S) (r : ℕ) (xs ys : List Event) → state net r (xs ++ ys) ≡ state_from net (state net r xs) ys }
-    ensures state_more { (net : Network S) (r : ℕ) (xs : List Event) (e : Event) → state net r (xs ++ e ∷ []) ≡ node_after net.guests (state net r xs) e.input }
-    ensures sent { (net : Network S) (r : ℕ) (xs ys : List Event) → sent net r (xs ++ ys) ≡ sent net r xs ++ sent_from net (state net r xs) ys }
-    ensures sent_more { (net : Network S) (r : ℕ) (xs : List Event) (e : Event) → sent net r (xs ++ e ∷ []) ≡ sent net r xs ++ emits net r xs e }
+    ensures state { (net : Network S) (r : ℕ) (xs ys : List Event) →
+        state net r (xs ++ ys) ≡ state_from net (state net r xs) ys }
+    ensures state_more { (net : Network S) (r : ℕ) (xs : List Event) (e : Event) →
+        state net r (xs ++ e ∷ []) ≡ node_after net.guests (state net r xs) e.input }
+    ensures sent { (net : Network S) (r : ℕ) (xs ys : List Event) →
+        sent net r (xs ++ ys) ≡ sent net r xs ++ sent_from net (state net r xs) ys }
+    ensures sent_more { (net : Network S) (r : ℕ) (xs : List Event) (e : Event) →
+        sent net r (xs ++ e ∷ []) ≡ sent net r xs ++ emits net r xs e }
     ensures done { (net : Network S) (p : Part) → kept net p ++ taken_off net p ≡ p.done }
 {}
 
@@ -148,15 +207,18 @@ pub fn replays<S>()
 /// goes on where its world is: a Beacon only where the next external, if there is one, is of a later group,
 /// an Inject of the next one, a Close after all of them.
 pub fn fed_runs<S>()
-    ensures legal { (net : Network S) (feed rest : List External) (steps : List Step) → IsFedFrom net (opening (routers net)) feed steps rest → IsLegal net steps }
-    ensures continues { (net : Network S) (feed rest : List External) (steps : List Step) → DontFall feed → IsFedFrom net (opening (routers net)) feed steps rest → Continues feed (world net steps) }
+    ensures legal { (net : Network S) (feed rest : List External) (steps : List Step) →
+        IsFedFrom net (opening (routers net)) feed steps rest → IsLegal net steps }
+    ensures continues { (net : Network S) (feed rest : List External) (steps : List Step) → DontFall feed →
+        IsFedFrom net (opening (routers net)) feed steps rest → Continues feed (world net steps) }
 {}
 
 /// Two lists of steps put together: the second runs on from the world of the first, and the whole is legal
 /// exactly where both are. A front of a legal run is legal.
 pub fn runs_together<S>()
     ensures world { (net : Network S) (xs ys : List Step) → world net (xs ++ ys) ≡ run net (world net xs) ys }
-    ensures legal { (net : Network S) (xs ys : List Step) → IsLegal net xs → IsLegalFrom net (world net xs) ys → IsLegal net (xs ++ ys) }
+    ensures legal { (net : Network S) (xs ys : List Step) → IsLegal net xs → IsLegalFrom net (world net xs) ys →
+        IsLegal net (xs ++ ys) }
     ensures rest { (net : Network S) (xs ys : List Step) → IsLegal net (xs ++ ys) → IsLegalFrom net (world net xs) ys }
     ensures front { (net : Network S) (xs ys : List Step) → IsPrefixOf xs ys → IsLegal net ys → IsLegal net xs }
 {}
@@ -164,18 +226,25 @@ pub fn runs_together<S>()
 /// What stays under every further list of steps: closed stays closed, a quiet world whose boundary is at the
 /// horizon stays the same world, the committed rows stay at the front, and what is cut stays cut.
 pub fn lasting<S>()
-    ensures closed { (net : Network S) (w : World) (steps : List Step) → w.closed ≡ true → (run net w steps).closed ≡ true }
-    ensures ended { (net : Network S) (w : World) (steps : List Step) → is_quiet w ≡ true → w.boundary ≡ horizon net.header w → IsLegalFrom net w steps → run net w steps ≡ w }
-    ensures rows { (net : Network S) (xs ys : List Step) → IsTimed net.header → IsLegal net (xs ++ ys) → IsPrefixOf (committed net (world net xs)) (committed net (world net (xs ++ ys))) }
-    ensures cut { (net : Network S) (xs ys : List Step) → IsTimed net.header → IsLegal net (xs ++ ys) → is_cut_off net (world net xs) ≡ true → is_cut_off net (world net (xs ++ ys)) ≡ true }
+    ensures closed { (net : Network S) (w : World) (steps : List Step) → w.closed ≡ true →
+        (run net w steps).closed ≡ true }
+    ensures ended { (net : Network S) (w : World) (steps : List Step) → is_quiet w ≡ true →
+        w.boundary ≡ horizon net.header w → IsLegalFrom net w steps → run net w steps ≡ w }
+    ensures rows { (net : Network S) (xs ys : List Step) → IsTimed net.header → IsLegal net (xs ++ ys) →
+        IsPrefixOf (committed net (world net xs)) (committed net (world net (xs ++ ys))) }
+    ensures cut { (net : Network S) (xs ys : List Step) → IsTimed net.header → IsLegal net (xs ++ ys) →
+        is_cut_off net (world net xs) ≡ true → is_cut_off net (world net (xs ++ ys)) ≡ true }
 {}
 
 /// How far the feed has come is told by the steps that feed the case alone: Beacon, Inject and Close, in
 /// order. All other steps leave floor, closed and the accepted externals as they are.
 pub fn fed_alone<S>()
-    ensures floor { (net : Network S) (w : World) (steps : List Step) → (run net w steps).floor ≡ (run net w (feeding steps)).floor }
-    ensures closed { (net : Network S) (w : World) (steps : List Step) → (run net w steps).closed ≡ (run net w (feeding steps)).closed }
-    ensures accepted { (net : Network S) (w : World) (steps : List Step) → (run net w steps).accepted ≡ (run net w (feeding steps)).accepted }
+    ensures floor { (net : Network S) (w : World) (steps : List Step) →
+        (run net w steps).floor ≡ (run net w (feeding steps)).floor }
+    ensures closed { (net : Network S) (w : World) (steps : List Step) →
+        (run net w steps).closed ≡ (run net w (feeding steps)).closed }
+    ensures accepted { (net : Network S) (w : World) (steps : List Step) →
+        (run net w steps).accepted ≡ (run net w (feeding steps)).accepted }
     ensures injects { (steps : List Step) → injects (feeding steps) ≡ injects steps }
 {}
 
@@ -184,7 +253,8 @@ pub fn fed_alone<S>()
 pub fn logs()
     ensures last { (xs ys : List Entry) → IsLog ys → IsPrefixOf xs ys → is_stopped xs ≡ true → xs ≡ ys }
     ensures stays { (xs ys : List Entry) → IsLog ys → IsPrefixOf xs ys → is_stopped xs ≡ true → is_stopped ys ≡ true }
-    ensures within { (log : List Entry) (place : ℕ) → IsLog log → slice_get log place ≡ Some Stop → is_stopped log ≡ true }
+    ensures within { (log : List Entry) (place : ℕ) → IsLog log → slice_get log place ≡ Some Stop →
+        is_stopped log ≡ true }
     ensures stopped { (steps : List Step) (stopped : Bool) → is_stopped (log_of steps stopped) ≡ stopped }
     ensures did { (steps : List Step) (s : Step) → log_of (steps ++ s ∷ []) false ≡ log_of steps false ++ Did s ∷ [] }
     ensures stop { (steps : List Step) → log_of steps true ≡ log_of steps false ++ Stop ∷ [] }
@@ -195,7 +265,8 @@ pub fn logs()
 pub fn fed_logs()
     ensures append { (xs ys : List Entry) → fed (xs ++ ys) ≡ fed xs ++ fed ys }
     ensures front { (xs ys : List Entry) → IsPrefixOf xs ys → IsPrefixOf (fed xs) (fed ys) }
-    ensures between { (xs ys zs : List Entry) → IsPrefixOf xs ys → IsPrefixOf ys zs → fed zs ≡ fed xs → fed ys ≡ fed xs }
+    ensures between { (xs ys zs : List Entry) → IsPrefixOf xs ys → IsPrefixOf ys zs → fed zs ≡ fed xs →
+        fed ys ≡ fed xs }
     ensures stop { (xs : List Entry) → fed (xs ++ Stop ∷ []) ≡ fed xs }
     ensures steps { (steps : List Step) (stopped : Bool) → fed (log_of steps stopped) ≡ map Did (feeding steps) }
 {}

@@ -37,7 +37,8 @@ impl Router {
         flush: bool,
         lsa: &Lsa,
     ) -> Result<(), AllocError>
-        ensures { OnOk result (self.new ≡ putting (flood_received_outputs full port self.old.number flush lsa.now) self.old) }
+        ensures { OnOk result (self.new ≡
+            putting (flood_received_outputs full port self.old.number flush lsa.now) self.old) }
     {
         // RFC 2328 section 13.3, step (5): InfTransDelay is added.
         let age = sent_age(lsa.head.age.min(MAX_AGE));

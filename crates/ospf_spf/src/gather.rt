@@ -16,7 +16,14 @@ fn merge(old: &Route, new: &Route) -> Route
     requires len { old.now.len ≡ new.now.len }
     ensures cheaper { new.now.cost < old.now.cost → result ≡ new.now }
     ensures dearer { old.now.cost < new.now.cost → result ≡ old.now }
-    ensures both { old.now.cost ≡ new.now.cost → result ≡ record { prefix = old.now.prefix; len = old.now.len; cost = old.now.cost; own = old.now.own || new.now.own; via = bit_or old.now.via new.now.via } }
+    ensures both { old.now.cost ≡ new.now.cost → result ≡
+        record {
+          prefix = old.now.prefix;
+          len = old.now.len;
+          cost = old.now.cost;
+          own = old.now.own || new.now.own;
+          via = bit_or old.now.via new.now.via;
+        } }
 {
     if new.cost < old.cost {
         *new

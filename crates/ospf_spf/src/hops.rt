@@ -25,7 +25,8 @@ fn leads(link: &RouterLink) -> bool
 /// The place of an id.
 pub(crate) fn position(ids: &[u32], id: u32) -> Option<usize>
     requires { AreRising ids.now }
-    ensures { MatchOption result ((i : ℕ) → i < length ids.now → slice_index ids.now i ≢ id) (λ i. (i < length ids.now) × (slice_index ids.now i ≡ id)) }
+    ensures { MatchOption result ((i : ℕ) → i < length ids.now →
+        slice_index ids.now i ≢ id) (λ i. (i < length ids.now) × (slice_index ids.now i ≡ id)) }
 {
     ids.binary_search(&id).ok()
 }
@@ -75,7 +76,8 @@ fn hop_to(to: usize, port: u32, metric: u16) -> Hop
 /// The hop of a link, if it leads to a vertex that links back.
 fn hop_of(from: u32, link: &RouterLink, ids: &[u32], ways: &BTreeSet<(u32, u32)>) -> Option<Hop>
     requires { AreRising ids.now }
-    ensures { MatchOption result ((h : Hop) → IsHopOf from ids.now ways.now h link.now → ⊥) (λ h. IsHopOf from ids.now ways.now h link.now × (h.metric ≤ 65535)) }
+    ensures { MatchOption result ((h : Hop) → IsHopOf from ids.now ways.now h link.now →
+        ⊥) (λ h. IsHopOf from ids.now ways.now h link.now × (h.metric ≤ 65535)) }
 {
     // RFC 2328 section 16.1, step (2)(b): the other end must link back.
     if !leads(link) || !ways.contains(&(link.id, from)) {

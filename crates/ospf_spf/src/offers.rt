@@ -23,7 +23,8 @@ fn length_of(mask: u32) -> Option<u8>
 /// The offer of a link, if it is a stub link (RFC 2328 section 16.1, second stage, steps (1) and (2)).
 fn offer_of(link: &RouterLink, cost: u32, own: bool, via: u16) -> Option<Route>
     requires { cost + 65535 < 2 ^ 32 }
-    ensures { MatchOption result ((r : Route) → IsOffer cost own via link.now r → ⊥) (λ r. IsOffer cost own via link.now r) }
+    ensures { MatchOption result ((r : Route) → IsOffer cost own via link.now r →
+        ⊥) (λ r. IsOffer cost own via link.now r) }
 {
     if link.kind != STUB_NETWORK {
         return None;
@@ -69,7 +70,8 @@ pub fn offers(
     requires best { length best.now ≡ length graph.now }
     requires masks { length masks.now ≡ length graph.now }
     requires small { (v c : ℕ) → label best.now v ≡ Some c → c + 65535 < 2 ^ 32 }
-    ensures { IfOk result (λ offers. AreOffered graph.now root (label best.now) masks.now (length graph.now) offers.items) }
+    ensures { IfOk result (λ offers. AreOffered graph.now root (label best.now) masks.now
+        (length graph.now) offers.items) }
 {
     let mut offers = Vec::new(alloc);
     for (i, vertex) in graph.iter().enumerate() {

@@ -78,7 +78,8 @@ pub fn least_costs(alloc: Global, hops: &[Vec<Hop>], root: usize) -> Result<Foun
     requires root { root < length hops.now }
     requires hops { AreHops hops.now (length hops.now) }
     ensures len { IfOk result (λ found. length found.best.items ≡ length hops.now) }
-    ensures least { IfOk result (λ found. IsLeast hops.now root (label found.best.items) found.order.items (length hops.now)) }
+    ensures least { IfOk result (λ found. IsLeast hops.now root (label found.best.items) found.order.items
+        (length hops.now)) }
 {
     let mut best = vec![in alloc; None; hops.len()]?;
     let mut done = vec![in alloc; false; hops.len()]?;

@@ -38,7 +38,8 @@ fn vertex_of(
 
 /// The vertex of the LSA at a key, if there is one.
 fn vertex_at(alloc: Global, db: &Lsdb, now: u32, key: &LsaKey) -> Result<Option<Vertex>, AllocError>
-    ensures { IfOk result (λ found. found ≡ option_and_then (λ k. vertex_of now (key.now, k)) (kept_at db.now key.now)) }
+    ensures { IfOk result (λ found. found ≡
+        option_and_then (λ k. vertex_of now (key.now, k)) (kept_at db.now key.now)) }
 {
     match db.get(key) {
         Some(kept) => vertex_of(alloc, now, key, kept),
