@@ -23,7 +23,8 @@
 //!
 //! The definitions: `specs/Fabrics.antt` (a fabric as plain data, and what each call makes of it),
 //! `specs/Promises.antt` (what is promised of its rows and of its end), `specs/Driven.antt` (where every drive
-//! begins, and what a fabric shows at its end), `specs/Answers.antt`, `specs/Work.antt`. They stand on those of `dn_world`: worlds, steps, legal runs.
+//! begins, and what a fabric shows at its end), `specs/Answers.antt`, `specs/Work.antt`. They stand on those of
+//! `dn_world`: worlds, steps, legal runs.
 //!
 //! The one contract upwards: each call that is a step is that step of a world, and stands last in the journal
 //! (`HasStepped`; what of that names no network, `HasNoted`), and the journal is a legal run that leads to the
