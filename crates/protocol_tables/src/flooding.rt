@@ -2,14 +2,14 @@
 
 ghost use Rattle.std.specs.Prelude.{◌≡◌, ◌+◌, ◌<◌, IfOk, length};
 
-use crate::fields::Line;
 use crate::lsas::{lsa_of, push_kept, push_key};
-use crate::out::Out;
+use crate::named::{byte, number, ports, some_number};
 use dn_guest::NoMemory;
 use ospf_flood::{Lists, Step, Verdict};
 use ospf_lsdb::{LsaKey, Lsdb, key_of};
 use ospf_wire::Lsa;
 use std::alloc::Global;
+use table_program::{Fields, Out};
 
 /// The LSA that stands on retransmission lists: the router-LSA of router 5.
 const LISTED: LsaKey = LsaKey {
@@ -19,24 +19,28 @@ const LISTED: LsaKey = LsaKey {
 };
 
 /// `copy`: installs the LSA at the tick `installed`, by flooding or not; it was sent at the tick `sent`.
-pub fn copy(alloc: Global, database: &mut Lsdb, line: &mut Line<'_>) -> Result<(), NoMemory> {
-    let lsa = lsa_of(alloc, line)?;
+pub(crate) fn copy(
+    alloc: Global,
+    database: &mut Lsdb,
+    fields: &mut Fields<'_>,
+) -> Result<(), NoMemory> {
+    let lsa = lsa_of(alloc, fields)?;
     let key = key_of(&lsa.head);
-    let installed = line.number("installed", 50);
-    let flooded = line.has("flooded");
-    database.install(lsa, installed, flooded, line.has("foreign"))?;
-    if let Some(sent) = line.some("sent", 10, u32::MAX) {
-        database.note_sent(&key, sent);
+    let installed = number(fields, b"installed", 50);
+    let flooded = fields.has(b"flooded");
+    database.install(lsa, installed, flooded, fields.has(b"foreign"))?;
+    if let Some(sent) = some_number(fields, b"sent", 0xffff_ffff) {
+        database.note_sent(&key, sent as u32);
     }
     Ok(())
 }
 
 /// So many lists; the LSA 1/5/5 stands on those of the ports `listed`, since the tick `at`.
-fn lists_of(alloc: Global, count: u8, line: &mut Line<'_>) -> Result<Lists, NoMemory>
+fn lists_of(alloc: Global, count: u8, fields: &mut Fields<'_>) -> Result<Lists, NoMemory>
     ensures { IfOk result (λ lists. length lists ≡ count) }
 {
-    let listed = line.ports("listed");
-    let at = line.number("at", 90);
+    let listed = ports(fields, b"listed");
+    let at = number(fields, b"at", 90);
     let mut lists = Lists::new(alloc, count)?;
     lists.put_on(listed, LISTED, at)?;
     Ok(lists)
@@ -52,32 +56,32 @@ struct Arrival {
     now: u32,
 }
 
-fn arrival_of(line: &mut Line<'_>) -> Arrival {
-    let full = line.ports("full");
+fn arrival_of(fields: &mut Fields<'_>) -> Arrival {
+    let full = ports(fields, b"full");
     Arrival {
         full: if full == 0 { 0b0111 } else { full },
-        port: line.byte("port", 1),
-        own: line.number("own", 9),
-        now: line.number("now", 100),
+        port: byte(fields, b"port", 1),
+        own: number(fields, b"own", 9),
+        now: number(fields, b"now", 100),
     }
 }
 
 /// `receive`: receives the LSA on a port of a router that has `lists` ports. It tells the step, and what
 /// the database and the lists are then.
-pub fn receive(
+pub(crate) fn receive(
     alloc: Global,
     database: &mut Lsdb,
-    line: &mut Line<'_>,
+    fields: &mut Fields<'_>,
     out: &mut Out,
 ) -> Result<(), NoMemory> {
-    let arrival = arrival_of(line);
-    let count = line.byte("lists", 4);
+    let arrival = arrival_of(fields);
+    let count = byte(fields, b"lists", 4);
     if arrival.port >= count {
-        line.refuse();
+        fields.refuse();
         return Ok(());
     }
-    let came = lsa_of(alloc, line)?;
-    let mut lists = lists_of(alloc, count, line)?;
+    let came = lsa_of(alloc, fields)?;
+    let mut lists = lists_of(alloc, count, fields)?;
     receive_lsa(database, &mut lists, arrival, &came, out)?;
     push_lists(&lists, count, out)
 }

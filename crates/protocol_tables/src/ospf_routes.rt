@@ -1,22 +1,37 @@
 //! The routes of OSPF (RFC 2328 section 16.1): `router` and `lsa` install LSAs, `routes` tells the routes.
 
-use crate::fields::Line;
 use crate::lsas::lsa_of;
-use crate::out::Out;
+use crate::named::{address, number, short};
 use dn_guest::NoMemory;
+use dn_text::first_part;
 use ospf_lsdb::Lsdb;
 use ospf_spf::Route;
 use ospf_wire::{INITIAL_SEQUENCE_NUMBER, Lsa, LsaHeader, RouterLink, router_body};
 use std::alloc::Global;
+use table_program::{Fields, Out};
 
 /// `router`: installs the router-LSA of a router at tick 0. Behind commas stand its links: `to` a router,
-/// with the link data and the metric, and `stub` to a network, with the mask and the metric.
-pub fn router(alloc: Global, database: &mut Lsdb, line: &mut Line<'_>) -> Result<(), NoMemory> {
-    let id = line.number("router", 0);
-    let age = line.short("age", 0);
-    let links = links_of(alloc, line)?;
+/// with the link data and the metric, and `stub` to a network, with the mask and the metric. Whether the line could
+/// be read.
+pub(crate) fn router(alloc: Global, database: &mut Lsdb, line: &[u8]) -> Result<bool, NoMemory> {
+    let (front, rest) = first_part(b',', line);
+    let mut fields = Fields::new(alloc, front)?;
+    let links = links_of(alloc, rest, &mut fields)?;
+    install_router(alloc, database, links.as_slice(), &mut fields)?;
+    Ok(fields.is_read())
+}
+
+/// Installs the router-LSA with these links.
+fn install_router(
+    alloc: Global,
+    database: &mut Lsdb,
+    links: &[RouterLink],
+    fields: &mut Fields<'_>,
+) -> Result<(), NoMemory> {
+    let id = number(fields, b"router", 0);
+    let age = short(fields, b"age", 0);
     if links.len() > 100 {
-        line.refuse();
+        fields.refuse();
         return Ok(());
     }
     let head = LsaHeader {
@@ -29,63 +44,71 @@ pub fn router(alloc: Global, database: &mut Lsdb, line: &mut Line<'_>) -> Result
         sum: 0,
         length: (24 + 12 * links.len()) as u16,
     };
-    let body = router_body(alloc, links.as_slice())?;
+    let body = router_body(alloc, links)?;
     database.install(Lsa { head, body }, 0, true, false)
 }
 
-/// The links behind commas.
-fn links_of(alloc: Global, line: &mut Line<'_>) -> Result<Vec<RouterLink>, NoMemory> {
+/// The links behind commas; where one can't be read that is noted.
+fn links_of(
+    alloc: Global,
+    rest: Option<&[u8]>,
+    fields: &mut Fields<'_>,
+) -> Result<Vec<RouterLink>, NoMemory> {
     let mut links = Vec::new(alloc);
-    let Some(rest) = line.take_rest() else {
+    let Some(rest) = rest else {
         return Ok(links);
     };
-    for text in rest.split(", ") {
-        links.push(link_of(text, line))?;
+    for part in rest.split(|byte| *byte == b',') {
+        let mut of_link = Fields::new(alloc, part)?;
+        links.push(link_of(&mut of_link))?;
+        if !of_link.is_read() {
+            fields.refuse();
+        }
     }
     Ok(links)
 }
 
-/// The link that this text between commas describes; where it can't be read the line can't.
-fn link_of(text: &str, line: &mut Line<'_>) -> RouterLink {
-    let mut part = Line::new(text);
-    let metric = part.short("metric", 0);
-    let link = if part.verb() == "to" {
+/// The link that the words between two commas describe, before which a space stands.
+fn link_of(fields: &mut Fields<'_>) -> RouterLink {
+    let _space = fields.takes(b"");
+    let metric = short(fields, b"metric", 0);
+    if fields.takes(b"to") {
         RouterLink {
-            id: part.number("to", 0),
-            data: part.number("data", 0),
+            id: fields.long(),
+            data: number(fields, b"data", 0),
             kind: 1,
             metric,
         }
     } else {
         RouterLink {
-            id: part.address("stub", 0),
-            data: part.address("mask", 0),
+            id: address(fields, b"stub", 0),
+            data: address(fields, b"mask", 0),
             kind: 3,
             metric,
         }
-    };
-    if !part.is_read() {
-        line.refuse();
     }
-    link
 }
 
 /// `lsa`: installs the LSA at tick 0.
-pub fn lsa(alloc: Global, database: &mut Lsdb, line: &mut Line<'_>) -> Result<(), NoMemory> {
-    database.install(lsa_of(alloc, line)?, 0, true, false)
+pub(crate) fn lsa(
+    alloc: Global,
+    database: &mut Lsdb,
+    fields: &mut Fields<'_>,
+) -> Result<(), NoMemory> {
+    database.install(lsa_of(alloc, fields)?, 0, true, false)
 }
 
 /// `routes`: the routes of a router at the tick `now`.
-pub fn routes(
+pub(crate) fn routes(
     alloc: Global,
     database: &Lsdb,
-    line: &mut Line<'_>,
+    fields: &mut Fields<'_>,
     out: &mut Out,
 ) -> Result<(), NoMemory> {
-    let root = line.number("routes", 0);
-    let now = line.number("now", 0);
+    let root = fields.long();
+    let now = number(fields, b"now", 0);
     if database.len() > 65_535 {
-        line.refuse();
+        fields.refuse();
         return Ok(());
     }
     let found = ospf_spf::routes(alloc, database, root, now)?;

@@ -3,16 +3,19 @@
 ghost use Rattle.ospf_wire.specs.Packets.{IsEncodable};
 ghost use Rattle.rip_wire.specs.Messages.{IsEncodable as CanWrite};
 
-use crate::fields::Line;
-use crate::out::Out;
 use dn_guest::{Bytes, NoMemory};
 use ospf_wire::{Packet, RouterLink, is_well_formed, router_links};
 use rip_wire::Message;
 use std::alloc::Global;
+use table_program::{Fields, Out};
 
 /// `packet`: an OSPF packet is read and written again. Its checksum is told if it isn't zero.
-pub fn packet(alloc: Global, line: &mut Line<'_>, out: &mut Out) -> Result<(), NoMemory> {
-    let came = line.bytes(alloc, "packet", &[])?;
+pub(crate) fn packet(
+    alloc: Global,
+    fields: &mut Fields<'_>,
+    out: &mut Out,
+) -> Result<(), NoMemory> {
+    let came = fields.bytes(alloc)?;
     push_packet(alloc, came.as_slice(), out)
 }
 
@@ -51,8 +54,12 @@ fn push_sum(sum: u16, out: &mut Out) {
 }
 
 /// `message`: a RIP message is read and written again.
-pub fn message(alloc: Global, line: &mut Line<'_>, out: &mut Out) -> Result<(), NoMemory> {
-    let came = line.bytes(alloc, "message", &[])?;
+pub(crate) fn message(
+    alloc: Global,
+    fields: &mut Fields<'_>,
+    out: &mut Out,
+) -> Result<(), NoMemory> {
+    let came = fields.bytes(alloc)?;
     push_message(alloc, came.as_slice(), out)
 }
 
@@ -77,8 +84,8 @@ fn push_message_again(alloc: Global, message: &Message, out: &mut Out) -> Result
 }
 
 /// `body`: the links of the body of a router-LSA.
-pub fn body(alloc: Global, line: &mut Line<'_>, out: &mut Out) -> Result<(), NoMemory> {
-    let came = line.bytes(alloc, "body", &[])?;
+pub(crate) fn body(alloc: Global, fields: &mut Fields<'_>, out: &mut Out) -> Result<(), NoMemory> {
+    let came = fields.bytes(alloc)?;
     push_body(alloc, came.as_slice(), out)
 }
 

@@ -1,64 +1,74 @@
 //! The RIP routing table (RFC 2453 sections 3.5 to 3.10): what each call does to it.
 
-use crate::fields::Line;
-use crate::out::Out;
+use crate::named::{address, byte, number, short, some_number};
 use dn_guest::NoMemory;
 use rip_table::{Held, Table};
 use rip_wire::Entry;
+use table_program::{Fields, Out};
 
 /// The network of the lines that say no other: 10.9.0.0/16.
 const ADDRESS: u32 = 0x0a09_0000;
 
-/// Does what the line says. `table` tells the routes, `update` the entries of an update.
-pub fn turn(table: &mut Table, line: &mut Line<'_>, out: &mut Out) -> Result<(), NoMemory> {
-    match line.verb() {
-        "connect" => connect(table, line),
-        "response" => response(table, line),
-        "table" => show(table, out),
-        "update" => update(table, line, out),
-        verb => {
-            change(table, verb, line);
+/// Does what the word and the fields behind it say. `table` tells the routes, `update` the entries of an update.
+pub(crate) fn turn(
+    table: &mut Table,
+    word: &[u8],
+    fields: &mut Fields<'_>,
+    out: &mut Out,
+) -> Result<(), NoMemory> {
+    match word {
+        b"connect" => connect(table, fields),
+        b"response" => response(table, fields),
+        b"table" => show(table, out),
+        b"update" => update(table, fields, out),
+        _ => {
+            change(table, word, fields);
             Ok(())
         }
     }
 }
 
 /// The changes that take no memory.
-fn change(table: &mut Table, verb: &str, line: &mut Line<'_>) {
-    let now = line.number("now", 50);
-    match verb {
-        "lose" => {
-            let network = line.address("address", ADDRESS);
-            table.lose(network, line.byte("length", 16), now);
+fn change(table: &mut Table, word: &[u8], fields: &mut Fields<'_>) {
+    let now = number(fields, b"now", 50);
+    match word {
+        b"lose" => {
+            let network = address(fields, b"address", ADDRESS);
+            table.lose(network, byte(fields, b"length", 16), now);
         }
-        "down" => table.lose_port(line.byte("port", 1), now),
-        "settle" => table.settle(),
-        "tick" => table.tick(line.number("tick", 0)),
-        _ => line.refuse(),
+        b"down" => table.lose_port(byte(fields, b"port", 1), now),
+        b"settle" => table.settle(),
+        b"tick" => table.tick(fields.long()),
+        _ => fields.refuse(),
     }
 }
 
 /// `connect`: an own network.
-fn connect(table: &mut Table, line: &mut Line<'_>) -> Result<(), NoMemory> {
-    let network = line.address("address", ADDRESS);
-    let length = line.byte("length", 16);
-    let metric = line.byte("metric", 3);
-    table.connect(network, length, metric, line.number("now", 50))
+fn connect(table: &mut Table, fields: &mut Fields<'_>) -> Result<(), NoMemory> {
+    let network = address(fields, b"address", ADDRESS);
+    let length = byte(fields, b"length", 16);
+    let metric = byte(fields, b"metric", 3);
+    table.connect(network, length, metric, number(fields, b"now", 50))
 }
 
 /// `response`: an entry of a response that comes on a port of this cost.
-fn response(table: &mut Table, line: &mut Line<'_>) -> Result<(), NoMemory> {
-    let told = Entry {
-        family: line.short("family", 2),
-        tag: line.short("tag", 8),
-        address: line.address("address", ADDRESS),
-        mask: line.address("mask", 0xffff_0000),
+fn response(table: &mut Table, fields: &mut Fields<'_>) -> Result<(), NoMemory> {
+    let told = entry_of(fields);
+    let port = byte(fields, b"port", 1);
+    let cost = byte(fields, b"cost", 1);
+    table.response(port, cost, &told, number(fields, b"now", 50))
+}
+
+/// The entry of the fields.
+fn entry_of(fields: &mut Fields<'_>) -> Entry {
+    Entry {
+        family: short(fields, b"family", 2),
+        tag: short(fields, b"tag", 8),
+        address: address(fields, b"address", ADDRESS),
+        mask: address(fields, b"mask", 0xffff_0000),
         hop: 0,
-        metric: line.number("metric", 1),
-    };
-    let port = line.byte("port", 1);
-    let cost = line.byte("cost", 1);
-    table.response(port, cost, &told, line.number("now", 50))
+        metric: number(fields, b"metric", 1),
+    }
 }
 
 /// `table`: the routes, how many own networks can be reached, and whether a route is marked as changed.
@@ -92,12 +102,12 @@ fn push_held(held: Held, out: &mut Out) {
 }
 
 /// `update`: the entries of an update, to a port or to one that asks for the whole table.
-fn update(table: &Table, line: &mut Line<'_>, out: &mut Out) -> Result<(), NoMemory> {
-    let to = match line.some("port", 10, 255) {
+fn update(table: &Table, fields: &mut Fields<'_>, out: &mut Out) -> Result<(), NoMemory> {
+    let to = match some_number(fields, b"port", 255) {
         Some(port) => Some(port as u8),
         None => None,
     };
-    let entries = table.reply(to, line.has("changed"))?;
+    let entries = table.reply(to, fields.has(b"changed"))?;
     out.flag(entries.is_empty(), "-> no entries\n");
     for entry in entries.as_slice() {
         push_entry(*entry, out);
