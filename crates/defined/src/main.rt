@@ -2,12 +2,14 @@
 //! the status's line to standard error, and ends with the status's number.
 #![tactic(auto)]
 
-use dn_guest::Bytes;
+mod telling;
+
+use crate::telling::tell;
 use dn_io::{StdSink, StdSource};
-use dn_top::{Status, defined_top, status_line, status_number};
+use dn_top::{Status, defined_top, status_number};
 use std::alloc::AllocError;
 use std::env;
-use std::io::{ErrorKind, Write};
+use std::io::ErrorKind;
 use std::process::ExitCode;
 use std::rt::Env;
 
@@ -30,18 +32,19 @@ fn words_of(rt: &(impl Env + AllocGlobal)) -> Result<Option<Vec<String>>, AllocE
     Ok(Some(words))
 }
 
+/// Where there is no memory for the words, nothing is read or written: the line would take memory too.
 fn main(rt: HostRuntime) -> ExitCode {
-    let status = match words_of(&rt) {
-        Err(_) => Status::NoMemory,
-        Ok(None) => Status::Usage,
-        Ok(Some(words)) => {
+    let Ok(words) = words_of(&rt) else {
+        return ExitCode::from(status_number(&Status::NoMemory));
+    };
+    let status = match words {
+        Some(words) => {
             let mut source = StdSource::new(rt.stdin());
             let mut sink = StdSink::new(rt.stdout());
             defined_top(rt.alloc(), words.as_slice(), &mut source, &mut sink)
         }
+        None => Status::Usage,
     };
-    if let Ok(line) = status_line(rt.alloc(), &status) {
-        let _ = rt.stderr().write(line.as_slice());
-    }
+    let _ = tell(rt.alloc(), &status, &mut StdSink::new(rt.stderr()));
     ExitCode::from(status_number(&status))
 }
