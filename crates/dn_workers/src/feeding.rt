@@ -30,7 +30,8 @@ pub fn reach<G: Guest>(fabric: &mut Fabric<G>, group: u32) -> Result<(), NoMemor
     requires inside { group < fabric.old.live.header.groups }
     ensures ok { OnOk result (HasFed fabric.old (replicate (group - fabric.old.live.world.floor) Beacon) group false
         fabric.new) }
-    ensures err { OnErr result ((beats : ℕ) × HasStoppedAfter fabric.old beats fabric.new) }
+    ensures err { OnErr result ((beats : ℕ) × (beats ≤ group - fabric.old.live.world.floor)
+        × HasStoppedAfter fabric.old beats fabric.new) }
 {
     let floor = fabric.floor();
     for _begun in floor..group {
@@ -54,7 +55,8 @@ pub fn give<G: Guest>(
     requires asked { is_injectable fabric.old.live.header router input ≡ true }
     ensures ok { OnOk result (HasFed fabric.old (replicate (group - fabric.old.live.world.floor) Beacon
         ++ Inject (record { group = group; router = router; input = input }) ∷ []) group false fabric.new) }
-    ensures err { OnErr result ((beats : ℕ) × HasStoppedAfter fabric.old beats fabric.new) }
+    ensures err { OnErr result ((beats : ℕ) × (beats ≤ group - fabric.old.live.world.floor)
+        × HasStoppedAfter fabric.old beats fabric.new) }
 {
     reach(fabric, group)?;
     let _ = fabric.journal();
@@ -70,7 +72,8 @@ pub fn close_at_the_end<G: Guest>(fabric: &mut Fabric<G>, last: u32) -> Result<(
     requires last { last + 1 ≡ fabric.old.live.header.groups }
     ensures ok { OnOk result (HasFed fabric.old (replicate (last - fabric.old.live.world.floor) Beacon ++ Close ∷ [])
         last true fabric.new) }
-    ensures err { OnErr result ((beats : ℕ) × HasStoppedAfter fabric.old beats fabric.new) }
+    ensures err { OnErr result ((beats : ℕ) × (beats ≤ last - fabric.old.live.world.floor)
+        × HasStoppedAfter fabric.old beats fabric.new) }
 {
     reach(fabric, last)?;
     let _ = fabric.journal();

@@ -1,4 +1,4 @@
-use Rattle.std.proofs.Common.{◌-◌, replicate, subst}
+use Rattle.std.proofs.Common.{arith, ◌-◌, replicate, subst}
 use Rattle.dn_world.specs.declared.step.Step.TheVariants.{Beacon, Inject}
 use Rattle.dn_fabric.specs.Fabrics.{HasStepped, HasNoted}
 use Rattle.dn_workers.proofs.Beats.{fed_inject, stopped_after, on_err_all}
@@ -15,4 +15,4 @@ returns-clause-ok g c = let n = c.journal.ensures.network in
     (subst (λ m. HasNoted f (Inject (record { group = m; router = c.args.router; input = c.args.input })) c.inject.new.self) k.floor noted)
 
 pub returns-in_err-inject-clause-err : goal.returns-in_err-inject-clause-err
-returns-in_err-inject-clause-err g c = on_err_all c.from_residual-in_err-inject.result (c.args.group - c.args.fabric.now.live.world.floor, stopped_after c.args.fabric.now c.reach.new.fabric c.inject.new.self (c.args.group - c.args.fabric.now.live.world.floor) c.args.group c.in_ok-reach.ensures.ok c.in_err-inject.ensures.err)
+returns-in_err-inject-clause-err g c = on_err_all c.from_residual-in_err-inject.result (c.args.group - c.args.fabric.now.live.world.floor, (omega arith), stopped_after c.args.fabric.now c.reach.new.fabric c.inject.new.self (c.args.group - c.args.fabric.now.live.world.floor) c.args.group c.in_ok-reach.ensures.ok c.in_err-inject.ensures.err)

@@ -22,7 +22,7 @@ pub beat-requires-clause-left : goal.beat-requires-clause-left
 beat-requires-clause-left g c κs within = let k = c.loop-begun.invariant.fed in let a = k.floor in let b = ap (λ (h : Heading). h.groups) k.header in let t = c.loop-begun-test.true in let i = c.requires.inside in omega (arith, a, b, t, i)
 
 pub returns-in_err-beat-clause-err : goal.returns-in_err-beat-clause-err
-returns-in_err-beat-clause-err g c = on_err_all c.from_residual.result (c.loop-begun._begun - c.args.fabric.now.live.world.floor, stopped_after c.args.fabric.now c.loop-begun.fabric c.beat.new.fabric (c.loop-begun._begun - c.args.fabric.now.live.world.floor) c.loop-begun._begun c.loop-begun.invariant.fed c.in_err-beat.ensures.err)
+returns-in_err-beat-clause-err g c = on_err_all c.from_residual.result (c.loop-begun._begun - c.args.fabric.now.live.world.floor, (let t = c.loop-begun-test.true in omega (arith, t)), stopped_after c.args.fabric.now c.loop-begun.fabric c.beat.new.fabric (c.loop-begun._begun - c.args.fabric.now.live.world.floor) c.loop-begun._begun c.loop-begun.invariant.fed c.in_err-beat.ensures.err)
 
 pub loop-begun-preserved : goal.loop-begun-preserved
 loop-begun-preserved g c = record {
