@@ -1,1 +1,2 @@
 mod Beats
+pub mod Going

@@ -1,1 +1,3 @@
 pub mod Feed
+pub mod Holds
+pub mod Work
