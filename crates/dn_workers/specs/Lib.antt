@@ -1,3 +1,4 @@
 pub mod Feed
 pub mod Holds
+pub mod Runs
 pub mod Work

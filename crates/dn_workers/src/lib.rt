@@ -19,11 +19,15 @@
 //! closed and cut, or quiet with all committed. It never adds what feeds the case, and its seat comes back free.
 #![tactic(auto)]
 
+mod feeder;
 mod feeding;
 mod gate;
 mod holding;
+mod threads;
 mod worker;
 
+pub use feeder::feed;
 pub use feeding::{close_at_the_end, give, reach};
 pub use gate::{Gate, OpenGate};
+pub use threads::run_threads;
 pub use worker::work;
