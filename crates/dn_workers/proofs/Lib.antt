@@ -1,2 +1,5 @@
 mod Beats
+mod Ended
+mod Gathering
 pub mod Going
+mod Whole
