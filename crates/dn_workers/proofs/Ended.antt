@@ -1,11 +1,11 @@
 -- What a seat has seen, in a log that goes on from it.
-use Rattle.std.proofs.Common.{◌≡◌, ◌⊎◌, Bool, true, false, true≢false, List, [], ◌∷◌, ◌++◌, map, refl, sym, ap, ◌∙◌, subst, inl, inr, ⊎_elim}
+use Rattle.std.proofs.Common.{◌≡◌, Bool, true, false, true≢false, List, [], ◌∷◌, ◌++◌, map, refl, sym, ap, ◌∙◌, subst, inl, inr, ⊎_elim}
 use Rattle.dn_guest.specs.Meaning.{Meaning}
 use Rattle.dn_model.specs.declared.feed.External.{External}
 use Rattle.dn_model.specs.Network.{Network, routers}
 use Rattle.dn_model.specs.Settled.{IsPrefixOf}
 use Rattle.dn_world.specs.declared.entry.Entry.{Entry}
-use Rattle.dn_world.specs.declared.entry.Entry.TheVariants.{Did, Stop}
+use Rattle.dn_world.specs.declared.entry.Entry.TheVariants.{Did}
 use Rattle.dn_world.specs.declared.step.Step.{Step}
 use Rattle.dn_world.specs.declared.step.Step.TheVariants.{Close}
 use Rattle.dn_world.specs.World.{World, opening, is_quiet, horizon}
@@ -14,7 +14,7 @@ use Rattle.dn_world.specs.Logs.{log_of, IsLog, is_stopped, fed, feeding}
 use Rattle.dn_world.specs.Runs.{IsLegal, IsLegalFrom, run, world, injects, is_cut_off}
 use Rattle.dn_fabric.specs.Fabrics.{Fabric, IsNetworkOf, IsReached, log_in}
 use Rattle.dn_turn.specs.Seat.{SeatView}
-use Rattle.dn_workers.specs.Feed.{IsFedWith, EndsWithClose}
+use Rattle.dn_workers.specs.Feed.{EndsWithClose}
 use Rattle.dn_workers.specs.Holds.{IsOver}
 use Rattle.dn_workers.specs.Joined.{HasAllOf, HasFedAll}
 use Rattle.dn_workers.specs.Work.{IsAtEnd, LeadsToEnd, IsDone}

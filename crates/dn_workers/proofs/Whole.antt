@@ -1,5 +1,5 @@
 -- A whole run: which seats there are before the threads, and what they tell once they are joined.
-use Rattle.std.proofs.Common.{◌≡◌, ℕ, ◌≤◌, ◌<◌, Bool, true, false, None, List, [], ◌∷◌, ◌++◌, length, get_or, take, append-nil, refl, sym, ap, ◌∙◌, subst, arith}
+use Rattle.std.proofs.Common.{◌≡◌, ℕ, ◌≤◌, ◌<◌, true, false, None, List, [], ◌∷◌, ◌++◌, length, get_or, take, append-nil, refl, sym, ap, ◌∙◌, arith}
 use Rattle.std.specs.List.{AllByRecursion}
 use Rattle.std.proofs.Math.Seq.{take-append_seam}
 use Rattle.dn_guest.specs.Meaning.{Meaning}
@@ -10,9 +10,9 @@ use Rattle.dn_world.specs.Logs.{fed}
 use Rattle.dn_world.specs.Runs.{injects}
 use Rattle.dn_fabric.specs.Driven.{IsOpening}
 use Rattle.dn_fabric.specs.Fabrics.{Fabric, IsNetworkOf, IsReached, log_in}
-use Rattle.dn_turn.specs.Seat.{SeatView, right_seat}
+use Rattle.dn_turn.specs.Seat.{SeatView}
 use Rattle.dn_workers.specs.Holds.{IsOver}
-use Rattle.dn_workers.specs.Joined.{AreNew, IsWorkers, HaveAnswered, HasAllOf, HasFedAll}
+use Rattle.dn_workers.specs.Joined.{AreNew, IsWorkers, HaveAnswered, HasAllOf}
 use Rattle.dn_workers.specs.Runs.{HasRun}
 use Rattle.dn_workers.specs.Work.{IsDone}
 use Rattle.dn_workers.proofs.Gathering.{all_from_places}
@@ -44,13 +44,16 @@ module _ {S : Type 0} where
   some_worker m first last was (x ∷ xs) n f some same count new answered seen all header opening =
       let e = new 0 x (omega (arith, some)) in
       let k = answered 0 x (omega (arith, some, count)) in
-      let w = k.0 in
-      (x, record {
-        header = all.header ∙ (header ∙ sym (w.same.header ∙ ap (λ s. s.header) e));
-        opening = all.opening ∙ (opening ∙ sym (w.same.opening ∙ ap (λ s. s.opening) e));
-        running = all.running;
-        seen = prefix_trans x.seen last.seen (log_in f) seen.0 all.seen;
-      }, k.1)
+      let w = k.0 in (
+        x,
+        record {
+          header = all.header ∙ (header ∙ sym (w.same.header ∙ ap (λ s. s.header) e));
+          opening = all.opening ∙ (opening ∙ sym (w.same.opening ∙ ap (λ s. s.opening) e));
+          running = all.running;
+          seen = prefix_trans x.seen last.seen (log_in f) seen.0 all.seen;
+        },
+        k.1,
+      )
 
   -- what the last seat has seen, a seat has that was joined into it
   pub has_all : (v last : SeatView S) (f : Fabric S) → HasAllOf last f → last.header ≡ v.header → last.opening ≡ v.opening → IsPrefixOf v.seen last.seen → HasAllOf v f
