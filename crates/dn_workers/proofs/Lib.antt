@@ -1,2 +1,3 @@
 mod Beats
+mod Feeds
 pub mod Going
