@@ -203,17 +203,17 @@ log_stop steps false = (Stop ∷ [], ap (λ l. l ++ Stop ∷ []) (append-nil (ma
 -- ---- what the feeder has answered
 
 -- the feeder gave one more
-record IsNext (h : Heading) (seen : List Entry) (x : External) (given : List External) (closed : Bool) : Type 0 where
-  before : List External
-  up_to : IsFedUpTo before seen
-  more : given ≡ before ++ x ∷ []
-  goes_on : closed ≡ false
-  rises : last_group 0 before ≤ x.group
+pub record IsNext (h : Heading) (seen : List Entry) (x : External) (given : List External) (closed : Bool) : Type 0 where
+  pub before : List External
+  pub up_to : IsFedUpTo before seen
+  pub more : given ≡ before ++ x ∷ []
+  pub goes_on : closed ≡ false
+  pub external : IsExternal h (last_group 0 before) x
 
-next_of : (h : Heading) (seen : List Entry) (answer : Fed) (given : List External) (closed : Bool) (r : ℕ) (i : Input) (stamp : ℕ) → answer ≡ One r i stamp → IsDue h seen answer given closed → IsNext h seen (record { group = stamp; router = r; input = i }) given closed
+pub next_of : (h : Heading) (seen : List Entry) (answer : Fed) (given : List External) (closed : Bool) (r : ℕ) (i : Input) (stamp : ℕ) → answer ≡ One r i stamp → IsDue h seen answer given closed → IsNext h seen (record { group = stamp; router = r; input = i }) given closed
 next_of h seen answer given closed r i stamp is due =
     let a : HasGiven h due.before (One r i stamp) given closed = subst (λ fed. HasGiven h due.before fed given closed) is due.answer in
-    record { before = due.before; up_to = due.up_to; more = a.0; goes_on = a.1; rises = a.2.rises }
+    record { before = due.before; up_to = due.up_to; more = a.0; goes_on = a.1; external = a.2 }
 
 -- it has closed
 record IsLast (seen : List Entry) (given : List External) (closed : Bool) : Type 0 where
@@ -252,7 +252,7 @@ pub fed_idle : (h : Heading) (seen : List Entry) (answer : Fed) (given : List Ex
 fed_idle h seen (One r i stamp) given closed stopped due =
     let x : External = record { group = stamp; router = r; input = i } in
     let n = next_of h seen (One r i stamp) given closed r i stamp refl due in
-    with_one_more h seen seen x given closed n n.up_to.steps n.up_to.is n.up_to.injected n.up_to.unclosed (let b = n.up_to.begun in let e = n.rises in omega (arith, b, e)) stopped
+    with_one_more h seen seen x given closed n n.up_to.steps n.up_to.is n.up_to.injected n.up_to.unclosed (let b = n.up_to.begun in let e = n.external.rises in omega (arith, b, e)) stopped
 fed_idle h seen Closed given closed stopped due =
     let l = last_of h seen Closed given closed refl due in with_end seen seen given closed l l.up_to.steps l.up_to.is l.up_to.injected
 
@@ -329,7 +329,7 @@ module _ {S : Type 0} where
         steps = u.steps ++ ys;
         is = steps_more f g u.steps ys (x ∷ []) beats false u.is a h.journal;
         injected = injects_both u.steps ys ∙ (ap (λ l. l ++ injects ys) u.injected ∙ (ap (λ l. n.before ++ l) a.injects ∙ sym n.more));
-        begun = begun_both u.steps ys ∙ (let b = u.begun in let m = a.begun in let low = floor n.before u in let e = n.rises in let t : begun u.steps + begun ys ≡ stamp = omega (arith, b, m, low, e) in t) ∙ sym (ap (last_group 0) n.more ∙ last_is 0 n.before x);
+        begun = begun_both u.steps ys ∙ (let b = u.begun in let m = a.begun in let low = floor n.before u in let e = n.external.rises in let t : begun u.steps + begun ys ≡ stamp = omega (arith, b, m, low, e) in t) ∙ sym (ap (last_group 0) n.more ∙ last_is 0 n.before x);
         unclosed = closes_both u.steps ys u.unclosed ∙ a.closes;
       })
 
@@ -353,7 +353,7 @@ module _ {S : Type 0} where
       (steps_more f g u.steps ys [] beats false u.is a h.journal)
       (injects_both u.steps ys ∙ (ap (λ l. injects u.steps ++ l) a.injects ∙ (append-nil (injects u.steps) ∙ u.injected)))
       (closes_both u.steps ys u.unclosed ∙ a.closes)
-      (let s = begun_both u.steps ys in let b = u.begun in let m = a.begun in let low = floor n.before u in let e = n.rises in let k = after.1 in omega (arith, s, b, m, low, e, k))
+      (let s = begun_both u.steps ys in let b = u.begun in let m = a.begun in let low = floor n.before u in let e = n.external.rises in let k = after.1 in omega (arith, s, b, m, low, e, k))
       (stopped_log g h.halted.stopped law)
 
   -- the feed was closed
