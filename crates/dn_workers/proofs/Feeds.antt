@@ -1,5 +1,5 @@
 -- What a feeder makes of the fabric and of its seat, and how far the feed has come then.
-use Rattle.std.proofs.Common.{◌≡◌, ◌⊎◌, ℕ, zero, suc, ◌+◌, ◌-◌, ◌<◌, ◌≤◌, length, List, [], ◌∷◌, ◌++◌, map, filter, Bool, ◌&&◌, true, false, true≢false, None, replicate, refl, sym, ap, ◌∙◌, subst, inl, inr, arith, append-nil, append_assoc}
+use Rattle.std.proofs.Common.{◌≡◌, ◌⊎◌, ℕ, zero, suc, ◌+◌, ◌-◌, ◌<◌, ◌≤◌, length, List, [], ◌∷◌, ◌++◌, map, filter, Bool, ◌&&◌, true, false, true≢false, None, Result, Ok, Err, IfOk, replicate, refl, sym, ap, ◌∙◌, subst, inl, inr, arith, append-nil, append_assoc}
 use Rattle.std.specs.Prelude.{Option, Some, slice_get, nat_le, nat_lt, if◌then◌else◌}
 use Rattle.std.specs.List.{AllByRecursion}
 use Rattle.std.proofs.lemmas.Bool.{lt-ltb, le-leb}
@@ -259,6 +259,10 @@ fed_idle h seen Closed given closed stopped due =
 pub up_to_nothing : (given : List External) (seen : List Entry) → fed seen ≡ [] → given ≡ [] → IsFedUpTo given seen
 unfolding injects
 up_to_nothing given seen unfed none = subst (λ xs. IsFedUpTo xs seen) (sym none) record { steps = []; is = unfed; injected = refl; begun = refl; unclosed = refl }
+
+pub if_ok : {X E : Type 0} (P Q : X → Type 0) (r : Result X E) → ((x : X) → P x → Q x) → IfOk r P → IfOk r Q
+if_ok P Q (Ok x) f h = f x h
+if_ok P Q (Err e) f h = tt
 
 module _ {S : Type 0} where
   -- further steps stand in the journal
