@@ -256,6 +256,15 @@ fed_idle h seen (One r i stamp) given closed stopped due =
 fed_idle h seen Closed given closed stopped due =
     let l = last_of h seen Closed given closed refl due in with_end seen seen given closed l l.up_to.steps l.up_to.is l.up_to.injected
 
+-- the feeder's closing is told by its answer
+pub closed_by : (h : Heading) (before given : List External) (answer : Fed) (closed : Bool) → answer ≡ Closed → HasGiven h before answer given closed → closed ≡ true
+closed_by h before given answer closed is a = let b : HasGiven h before Closed given closed = subst (λ fed. HasGiven h before fed given closed) is a in b.1
+
+-- the feeder found no memory: it gave nothing, and the log was fed with nothing
+pub fed_halted : (before given : List External) (closed : Bool) (seen now : List Entry) → given ≡ before → fed now ≡ fed seen → IsFedUpTo before seen → IsFedWith given closed now
+fed_halted before given closed seen now none same u =
+    with_up_to given closed now record { steps = u.steps; is = same ∙ u.is; injected = u.injected ∙ sym none; begun = u.begun ∙ ap (last_group 0) (sym none); unclosed = u.unclosed }
+
 pub up_to_nothing : (given : List External) (seen : List Entry) → fed seen ≡ [] → given ≡ [] → IsFedUpTo given seen
 unfolding injects
 up_to_nothing given seen unfed none = subst (λ xs. IsFedUpTo xs seen) (sym none) record { steps = []; is = unfed; injected = refl; begun = refl; unclosed = refl }
