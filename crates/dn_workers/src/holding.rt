@@ -24,10 +24,12 @@ pub(crate) enum Found<G: Guest> {
     Over,
 }
 
-/// Brings back what was computed, then takes steps until there is an order to compute, or nothing to do.
+/// Brings back what was computed, then takes steps until there is an order to compute, or nothing to do. If it is
+/// time to commit, that is done in between.
 pub(crate) fn go_on<G: Guest>(
     fabric: &mut Fabric<G>,
     computed: Option<Result<Outcome<G>, NoMemory>>,
+    commits: bool,
 ) -> Result<Found<G>, NoMemory>
     requires { fabric.old.live.stopped ≡ false }
     ensures gone_on { HasGoneOn fabric.old fabric.new }
@@ -36,6 +38,9 @@ pub(crate) fn go_on<G: Guest>(
     ensures err { OnErr result (fabric.new.live.stopped ≡ true) }
 {
     bring_back(fabric, computed)?;
+    if commits {
+        commit_ahead(fabric)?;
+    }
     for _ in 0..STEPS_A_HOLD {
         if let Some(found) = take_step(fabric)? {
             return Ok(found);
@@ -76,6 +81,20 @@ fn finish<G: Guest>(fabric: &mut Fabric<G>, outcome: Outcome<G>) -> Result<(), N
         return Ok(());
     }
     let _finished = fabric.finish(outcome)?;
+    Ok(())
+}
+
+/// Commits what is below the horizon, if that is above the boundary. Nothing asks for it before the end of the run,
+/// since there is always an order to compute; but what is committed needs no kept nodes any more.
+fn commit_ahead<G: Guest>(fabric: &mut Fabric<G>) -> Result<(), NoMemory>
+    requires { fabric.old.live.stopped ≡ false }
+    ensures gone_on { HasGoneOn fabric.old fabric.new }
+    ensures running { OnOk result (fabric.new.live.stopped ≡ false) }
+    ensures err { OnErr result (fabric.new.live.stopped ≡ true) }
+{
+    if fabric.horizon() > fabric.boundary() {
+        let _moved = fabric.commit()?;
+    }
     Ok(())
 }
 

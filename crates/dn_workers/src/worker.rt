@@ -15,6 +15,9 @@ use dn_router::{Order, Outcome};
 use dn_turn::{Turn, TurnSeat};
 use std::sync::Wait;
 
+/// How many orders a worker computes between two commits.
+const ORDERS_A_COMMIT: u64 = 256;
+
 /// Works on the fabric of the turn until all is done: until the world is quiet and committed, or closed and cut,
 /// or another seat has stopped the fabric.
 ///
@@ -34,13 +37,16 @@ pub fn work<G: Guest, Y: Gate, R: Wait>(
 {
     let backoff = Backoff::new();
     let mut computed = None;
+    let mut orders: u64 = 0;
     for _ in rt.forever() {
+        let commits = orders >= ORDERS_A_COMMIT;
         match turn.try_take(seat) {
             None => backoff.snooze(),
-            Some(fabric) => match hold(turn, seat, fabric, computed.take())? {
+            Some(fabric) => match hold(turn, seat, fabric, computed.take(), commits)? {
                 Found::Order(order) => {
                     backoff.reset();
                     computed = Some(compute(order, gate));
+                    orders = if commits { 1 } else { orders + 1 };
                 }
                 Found::More => backoff.reset(),
                 Found::Nothing => backoff.snooze(),
@@ -65,6 +71,7 @@ fn hold<G: Guest>(
     seat: &mut TurnSeat<Fabric<G>>,
     mut fabric: Fabric<G>,
     computed: Option<Result<Outcome<G>, NoMemory>>,
+    commits: bool,
 ) -> Result<Found<G>, NoMemory>
     requires turn { seat.old.turn ≡ turn.now }
     requires taken { HasTaken seat.old fabric }
@@ -77,7 +84,7 @@ fn hold<G: Guest>(
         turn.put(seat, fabric);
         return Ok(Found::Over);
     }
-    let found = go_on(&mut fabric, computed);
+    let found = go_on(&mut fabric, computed, commits);
     let _ = fabric.journal();
     turn.put(seat, fabric);
     found

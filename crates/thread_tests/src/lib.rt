@@ -1,0 +1,16 @@
+//! Tests of `run` on worker threads: what no clause can say, namely that workers compute at once, that they handle
+//! what has come before it is known to be right, and how many they are.
+//!
+//! A gate holds up calls until others have come; a call that has waited too long gives up, which counts as a miss.
+//! Both tests ask for no miss.
+//!
+//! | File | What it tests |
+//! |---|---|
+//! | `gates.rt` | a rollback that must happen on two workers; four calls in the gate at once, and never five |
+//! | `waiting.rt` | a bounded wait for other threads |
+#![tactic(auto)]
+
+#[cfg(test)]
+mod gates;
+#[cfg(test)]
+mod waiting;
