@@ -11,12 +11,19 @@
 //! | `holding.rt` | what a worker does while it has the fabric |
 //! | `gate.rt` | `Gate`, which a worker enters before it computes an order |
 //! | `feeding.rt` | what a feeder does with a fabric that it has: beacons up to a group, an input, the end |
+//! | `threads.rt` | `run_threads`, a whole run: a feeder and some workers, each on a thread of its own |
+//! | `seats.rt` | the workers' seats: split off the first one, and joined into it again |
+//! | `laws.rt` | what the seats of a run tell of the fabric at its end |
 //! | `specs/Work.antt` | what a worker has done when it answers |
 //! | `specs/Holds.antt` | what it may do while it has the fabric |
 //! | `specs/Feed.antt` | what a feeder's call adds to the fabric's journal |
+//! | `specs/Joined.antt` | the seats of a run: what workers and the feeder have left of them |
+//! | `specs/Runs.antt` | what a whole run is |
 //!
-//! The one contract upwards: `work` at Ok has seen a stop, or a log that is a legal run to the end of the network:
-//! closed and cut, or quiet with all committed. It never adds what feeds the case, and its seat comes back free.
+//! The one contract upwards: the fabric that `run_threads` gives at Ok wasn't stopped, has accepted just what the feeder
+//! gave, in order, is closed, and is cut, or quiet with all committed; its journal is a legal run that injects just
+//! these inputs. That rests on `work`, which at Ok has seen a stop, or a log that is a legal run to the end of the
+//! network, and which never adds what feeds the case; and on `feed`.
 #![tactic(auto)]
 
 mod feeder;
