@@ -2,14 +2,11 @@
 use Rattle.std.proofs.Common.{◌≡◌, ◌⊎◌, ℕ, ◌<◌, ◌≤◌, Bool, true, false, inl, inr, List, length, take, drop, Option, Some, None, refl, sym, ap, subst, ◌∙◌, arith}
 use Rattle.std.specs.Prelude.{IfSome, slice_get}
 use Rattle.std.proofs.Common.{get_or}
-use Rattle.std.specs.List.{concat}
 use Rattle.std.proofs.lemmas.List.{get_or-take}
 use Rattle.std.proofs.lemmas.Option.{slice_get-get_or}
 use Rattle.std.proofs.lemmas.Bool.{cases_lt}
 use Rattle.dn_io.specs.Streams.{Rose}
 use Rattle.dn_model.specs.Cases.{Recording}
-use Rattle.dn_text.specs.Lines.{lines}
-use Rattle.dn_case.specs.declared.cause.Cause.{Cause}
 use Rattle.dn_case.specs.declared.cause.CaseFault.{CaseFault}
 use Rattle.dn_trace.specs.Differing.{DiffersAt}
 use Rattle.dn_top.specs.declared.status.Status.{Status}

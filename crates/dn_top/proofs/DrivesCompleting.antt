@@ -1,9 +1,8 @@
 -- What an input asks of `rerun` and `shake` is one answer, and where nothing fails that is given.
-use Rattle.std.proofs.Common.{◌≡◌, ◌⊎◌, ℕ, ◌+◌, ◌<◌, true, inl, inr, List, length, Option, Some, None, refl, sym, ap, subst, ◌∙◌}
+use Rattle.std.proofs.Common.{◌≡◌, ◌⊎◌, ℕ, ◌<◌, true, inl, inr, List, length, Option, Some, None, refl, sym, ap, ◌∙◌}
 use Rattle.std.specs.Prelude.{IfSome}
 use Rattle.dn_io.specs.Streams.{Rose}
 use Rattle.dn_model.specs.Cases.{Recording}
-use Rattle.dn_case.specs.declared.cause.Cause.{Cause}
 use Rattle.dn_case.specs.declared.cause.CaseFault.{CaseFault}
 use Rattle.dn_world.specs.declared.step.Step.{Step}
 use Rattle.dn_drive.specs.declared.ended.Ended.{Ended}
@@ -11,7 +10,7 @@ use Rattle.dn_drive.specs.declared.ended.Ended.TheVariants as ended
 use Rattle.dn_top.specs.declared.status.Status.{Status}
 use Rattle.dn_top.specs.declared.status.Status.TheVariants as status
 use Rattle.dn_top.specs.declared.words.Schedule.{Schedule}
-use Rattle.dn_top.specs.Promises.{HasRerun, HasShaken, IsBadCase, IsBadJournal, IsBehindBad, AnswersRerun, AnswersShake, outcome_of, steps_of, journal_lines, lines_before, input_limit}
+use Rattle.dn_top.specs.Promises.{HasRerun, HasShaken, IsBadCase, IsBadJournal, AnswersRerun, AnswersShake, outcome_of, steps_of, input_limit}
 use Rattle.dn_top.specs.Drives.{HasOneJournal, is_of_steps}
 use Rattle.dn_top.specs.Completeness.{HasOneReading, RerunOwes, whole_rerun, cut_rerun, illegal_rerun, open_rerun, no_case_to_rerun, no_journal, too_big_to_rerun, ShakeOwes, whole_shake, cut_shake, open_shake, no_case_to_shake, too_big_to_shake, IsCalm, IsAnswered}
 use Rattle.dn_top.proofs.Readings.{bad_at}

@@ -11,7 +11,7 @@ use Rattle.guest_any.specs.Openings.{opening_guest}
 use Rattle.dn_model.specs.Cases.{Heading}
 use Rattle.dn_model.specs.Network.{routers}
 use Rattle.std.proofs.Common.{Option}
-use Rattle.dn_io.specs.Streams.{behind, PutsFront}
+use Rattle.dn_io.specs.Streams.{behind}
 use Rattle.dn_model.specs.Cases.{Recording}
 use Rattle.dn_case.specs.Spelling.{case_text}
 use Rattle.dn_trace.specs.declared.stream.Ending.{Ending}
