@@ -1,5 +1,5 @@
 -- What holds of a router's parts in every state.
-use Rattle.std.specs.Prelude.{◌≡◌, ℕ, ◌+◌, ◌-◌, ◌<◌, Bool, ◌&&◌, nat_lt, if◌then◌else◌, List, [], ◌∷◌, length}
+use Rattle.std.specs.Prelude.{◌≡◌, ℕ, ◌+◌, ◌-◌, ◌<◌, ◌≤◌, Bool, ◌&&◌, nat_lt, if◌then◌else◌, List, [], ◌∷◌, length}
 use Rattle.std.specs.List.{AllByRecursion}
 use Rattle.std.specs.List.Sorted.{IsSorted}
 use Rattle.dn_guest.specs.declared.node.Node.{Node}
@@ -10,6 +10,7 @@ use Rattle.dn_model.specs.Order.{event_cmp}
 use Rattle.dn_model.specs.Settled.{below}
 use Rattle.dn_world.specs.World.{Part, stands}
 use Rattle.dn_world.specs.Runs.{IsPast, IsTidy}
+use Rattle.dn_ckpt.specs.Shelves.{kept_from}
 use Rattle.dn_router.specs.Replays.{nodes_over}
 
 -- how many of voids were handled
@@ -33,8 +34,10 @@ pub record IsSound {S : Type 0} (guests : Meaning S) (number period : ℕ) (open
   pub own : AllByRecursion (λ e. e.router ≡ number) part.done
   pub todo : AllByRecursion (MayWait number bound) part.todo
   pub voids : AllByRecursion (MayWait number bound) part.voids
-  -- a node is kept for each number of entries
-  pub kept : shelf ≡ nodes_over guests 0 opening part.done
+  -- a node is kept for each number of entries from this one on, which isn't past the number of those committed
+  pub from : ℕ
+  pub reach : from ≤ counted
+  pub kept : shelf ≡ kept_from from (nodes_over guests 0 opening part.done)
   -- how many of voids were handled
   pub wrong : marked ≡ marked_in part.done part.voids
   pub committed : counted ≡ length (below bound part.done)
