@@ -1,5 +1,5 @@
 -- The nodes that are kept from a place on.
-use Rattle.std.proofs.Common.{◌≡◌, ℕ, ◌<◌, ◌≤◌, max, [], ◌∷◌, length, refl, sym, ap, ◌∙◌, arith}
+use Rattle.std.proofs.Common.{◌≡◌, ℕ, ◌<◌, ◌≤◌, [], ◌∷◌, refl, sym, ap, arith}
 use Rattle.std.specs.Prelude.{nat_le, Some}
 use Rattle.std.specs.Ordering.{nat_cmp}
 use Rattle.std.specs.declared.cmp.Ordering.TheVariants.{Less, Equal, Greater}
@@ -50,13 +50,13 @@ module _ {S : Type 0} where
       (λ g.
       let l = leb-true e.0 p g in
       by_test (nat_le p e.0)
-          (λ k. let m = leb-true p e.0 k in let w = base_within p es in simp g (omega (arith, l, m, w)))
-          (λ k.
-          let m = leb-false p e.0 k in
-          let past = cmp_past p e.0 m in
-          let rest : kept_at es p ≡ Some node = simp past at h in
-          let ih = base_at p es node rest in
-          simp g (omega (arith, l, ih))))
+      (λ k. let m = leb-true p e.0 k in let w = base_within p es in simp g (omega (arith, l, m, w)))
+      (λ k.
+      let m = leb-false p e.0 k in
+      let past = cmp_past p e.0 m in
+      let rest : kept_at es p ≡ Some node = simp past at h in
+      let ih = base_at p es node rest in
+      simp g (omega (arith, l, ih))))
       (λ g.
       let before = cmp_before p e.0 (leb-false e.0 p g) in
       let rest : kept_at es p ≡ Some node = simp before at h in
@@ -84,11 +84,11 @@ module _ {S : Type 0} where
       by_test (nat_le f e.0)
       (λ g.
       by_test (nat_le e.0 p)
-          (λ m.
-          by_test (nat_le p e.0)
-              (λ n. let a = leb-true e.0 p m in let b = leb-true p e.0 n in let k = cmp_same p e.0 (omega (arith, a, b)) in simp (g, k))
-              (λ n. let k = cmp_past p e.0 (leb-false p e.0 n) in simp (g, k) (ap (λ l. e ∷ l) ih)))
-          (λ m. let k = cmp_before p e.0 (leb-false e.0 p m) in simp (g, k, at)))
+      (λ m.
+      by_test (nat_le p e.0)
+      (λ n. let a = leb-true e.0 p m in let b = leb-true p e.0 n in let k = cmp_same p e.0 (omega (arith, a, b)) in simp (g, k))
+      (λ n. let k = cmp_past p e.0 (leb-false p e.0 n) in simp (g, k) (ap (λ l. e ∷ l) ih)))
+      (λ m. let k = cmp_before p e.0 (leb-false e.0 p m) in simp (g, k, at)))
       (λ g.
       let l = leb-false f e.0 g in
       let k = cmp_past p e.0 (omega (arith, l, h)) in

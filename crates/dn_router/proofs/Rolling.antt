@@ -45,7 +45,7 @@ rolled_is done q after place left taken h l t a =
 
 module _ {S : Type 0} (guests : Meaning S) where
   -- a node is kept for the entries before the first wrong one
-  pub place_reached : (number period : ℕ) (opening : Node S) (done : List Event) (q : Part) (place : ℕ) (shelf : List (ℕ × Node S)) (w c : ℕ) (bound : Key) → (s : IsSound guests number period opening (beside done q) shelf w c bound) → place ≡ length (until (is_wrong q) done) → s.from ≤ place
+  pub place_reached : (number period : ℕ) (opening : Node S) (done : List Event) (q : Part) (place : ℕ) (shelf : List (ℕ × Node S)) (w c : ℕ) (bound : Key) → IsSound guests number period opening (beside done q) shelf w c bound → place ≡ length (until (is_wrong q) done) → c ≤ place
   place_reached number period opening done q place shelf w c bound s h =
       let stay = stay_reached guests number period opening (beside done q) shelf w c bound s in
       let is = place_is done q place h in
@@ -60,9 +60,9 @@ module _ {S : Type 0} (guests : Meaning S) where
       let front : kept_up_to place (nodes_over guests 0 opening done) ≡ nodes =
       kept_cut guests 0 opening done place place (omega arith) (place_short done q place h)
       ∙ ap (nodes_over guests 0 opening) (front_is done q place h) in
-      let kept : cut ≡ kept_from s.from nodes =
-      k ∙ ap (kept_up_to place) s.kept ∙ cut_from s.from place (nodes_over guests 0 opening done) ∙ ap (kept_from s.from) front in
-      let on_part = subst (λ (x : Part). IsSound guests number period opening x (kept_from s.from nodes) 0 c bound) (sym (part_is done q after place left came h l a)) sound in
+      let kept : cut ≡ kept_from c nodes =
+      k ∙ ap (kept_up_to place) s.kept ∙ cut_from c place (nodes_over guests 0 opening done) ∙ ap (kept_from c) front in
+      let on_part = subst (λ (x : Part). IsSound guests number period opening x (kept_from c nodes) 0 c bound) (sym (part_is done q after place left came h l a)) sound in
       subst (λ (x : List (ℕ × Node S)). IsSound guests number period opening (beside left after) x 0 c bound) (sym kept) on_part
 
   -- what is unsent

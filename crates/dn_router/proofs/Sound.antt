@@ -102,8 +102,6 @@ module _ {S : Type 0} (guests : Meaning S) (number period : ℕ) (opening : Node
     own = tt;
     todo = tt;
     voids = tt;
-    from = 0;
-    reach = omega arith;
     kept = refl;
     wrong = refl;
     committed = refl;
@@ -120,14 +118,12 @@ module _ {S : Type 0} (guests : Meaning S) (number period : ℕ) (opening : Node
         own = subst (AllByRecursion (λ x. x.router ≡ number)) done s.own;
         todo = waits.0;
         voids = waits.1;
-        from = s.from;
-        reach = s.reach;
-        kept = s.kept ∙ ap (λ d. kept_from s.from (nodes_over guests 0 opening d)) done;
+        kept = s.kept ∙ ap (λ d. kept_from c (nodes_over guests 0 opening d)) done;
         wrong = ap (λ d. marked_in d (arrived (record { plus = plus; event = e }) p).voids) done;
         committed = s.committed ∙ ap (λ d. length (below bound d)) done;
       }
 
-  pub sound_handled : (p : Part) (e : Event) (es : List Event) (shelf : List (ℕ × Node S)) (w c : ℕ) (bound : Key) → (s : IsSound guests number period opening p shelf w c bound) → p.todo ≡ e ∷ es → is_behind p ≡ false → IsSound guests number period opening (record p { done = p.done ++ e ∷ []; todo = es }) (kept_from s.from (nodes_over guests 0 opening (p.done ++ e ∷ []))) w c bound
+  pub sound_handled : (p : Part) (e : Event) (es : List Event) (shelf : List (ℕ × Node S)) (w c : ℕ) (bound : Key) → IsSound guests number period opening p shelf w c bound → p.todo ≡ e ∷ es → is_behind p ≡ false → IsSound guests number period opening (record p { done = p.done ++ e ∷ []; todo = es }) (kept_from c (nodes_over guests 0 opening (p.done ++ e ∷ []))) w c bound
   sound_handled p e es shelf w c bound s is h =
       let one = first_of (MayWait number bound) p.todo es e is s.todo in
       let apart = subst (λ l. AllByRecursion (λ v. stands v l ≡ false) p.voids) is s.tidy.apart in
@@ -143,8 +139,6 @@ module _ {S : Type 0} (guests : Meaning S) (number period : ℕ) (opening : Node
         own = all_append (λ x. x.router ≡ number) p.done (e ∷ []) s.own (one.0.0, tt);
         todo = one.1;
         voids = s.voids;
-        from = s.from;
-        reach = s.reach;
         kept = refl;
         wrong = s.wrong ∙ sym (marks_stay e p.done p.voids others);
         committed = s.committed ∙ ap length (sym (below_past bound p.done (e ∷ []) (one.0.1, tt)));
@@ -166,14 +160,13 @@ module _ {S : Type 0} (guests : Meaning S) (number period : ℕ) (opening : Node
       ∙ ap length (below_past bound (until (is_wrong p) p.done) (since (is_wrong p) p.done) (off_past p shelf w c bound s))
 
   -- so a node is kept for the entries that stay
-  pub stay_reached : (p : Part) (shelf : List (ℕ × Node S)) (w c : ℕ) (bound : Key) → (s : IsSound guests number period opening p shelf w c bound) → s.from ≤ length (until (is_wrong p) p.done)
+  pub stay_reached : (p : Part) (shelf : List (ℕ × Node S)) (w c : ℕ) (bound : Key) → IsSound guests number period opening p shelf w c bound → c ≤ length (until (is_wrong p) p.done)
   stay_reached p shelf w c bound s =
       let counted = stay_committed p shelf w c bound s in
       let short = below_short bound (until (is_wrong p) p.done) in
-      let reach = s.reach in
-      omega (arith, counted, short, reach)
+      omega (arith, counted, short)
 
-  pub sound_rolled : (p : Part) (came lost : List Event) (shelf : List (ℕ × Node S)) (w c : ℕ) (bound : Key) → (s : IsSound guests number period opening p shelf w c bound) → since (is_wrong p) p.done ≡ came ++ lost → IsSound guests number period opening (with_todo came (beside (until (is_wrong p) p.done) p)) (kept_from s.from (nodes_over guests 0 opening (until (is_wrong p) p.done))) 0 c bound
+  pub sound_rolled : (p : Part) (came lost : List Event) (shelf : List (ℕ × Node S)) (w c : ℕ) (bound : Key) → IsSound guests number period opening p shelf w c bound → since (is_wrong p) p.done ≡ came ++ lost → IsSound guests number period opening (with_todo came (beside (until (is_wrong p) p.done) p)) (kept_from c (nodes_over guests 0 opening (until (is_wrong p) p.done))) 0 c bound
   unfolding with_todo cancelled
   sound_rolled p came lost shelf w c bound s is =
       let stay = until (is_wrong p) p.done in
@@ -190,8 +183,6 @@ module _ {S : Type 0} (guests : Meaning S) (number period : ℕ) (opening : Node
         own = all_until (λ x. x.router ≡ number) (is_wrong p) p.done s.own;
         todo = waits.0;
         voids = waits.1;
-        from = s.from;
-        reach = s.reach;
         kept = refl;
         wrong = sym (count_none (λ v. stands v stay) (with_todo came (beside stay p)).voids (all_unmatched (λ v. stands v stay ≡ false) (sorted (came ++ p.todo)) p.voids (none_handled p)));
         committed = stay_committed p shelf w c bound s;
@@ -213,8 +204,6 @@ module _ {S : Type 0} (guests : Meaning S) (number period : ℕ) (opening : Node
         own = s.own;
         todo = moved p.todo s.todo both.0;
         voids = moved p.voids s.voids both.1;
-        from = length (below key p.done);
-        reach = omega arith;
         kept = refl;
         wrong = s.wrong;
         committed = refl;
@@ -229,12 +218,11 @@ module _ {S : Type 0} (guests : Meaning S) (number period : ℕ) (opening : Node
       moved (e ∷ es) a b = ((a.0.0, b.0), moved es a.1 b.1)
 
 -- a node is kept for all entries
-pub done_reached : {S : Type 0} {guests : Meaning S} {number period : ℕ} {opening : Node S} {p : Part} {shelf : List (ℕ × Node S)} {w c : ℕ} {bound : Key} → (s : IsSound guests number period opening p shelf w c bound) → s.from ≤ length p.done
+pub done_reached : {S : Type 0} {guests : Meaning S} {number period : ℕ} {opening : Node S} {p : Part} {shelf : List (ℕ × Node S)} {w c : ℕ} {bound : Key} → IsSound guests number period opening p shelf w c bound → c ≤ length p.done
 done_reached {p = p} {bound = bound} s =
     let counted = s.committed in
     let short = below_short bound p.done in
-    let reach = s.reach in
-    omega (arith, counted, short, reach)
+    omega (arith, counted, short)
 
 -- ---- a router by its parts
 

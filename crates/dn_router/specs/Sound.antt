@@ -1,5 +1,5 @@
 -- What holds of a router's parts in every state.
-use Rattle.std.specs.Prelude.{◌≡◌, ℕ, ◌+◌, ◌-◌, ◌<◌, ◌≤◌, Bool, ◌&&◌, nat_lt, if◌then◌else◌, List, [], ◌∷◌, length}
+use Rattle.std.specs.Prelude.{◌≡◌, ℕ, ◌+◌, ◌-◌, ◌<◌, Bool, ◌&&◌, nat_lt, if◌then◌else◌, List, [], ◌∷◌, length}
 use Rattle.std.specs.List.{AllByRecursion}
 use Rattle.std.specs.List.Sorted.{IsSorted}
 use Rattle.dn_guest.specs.declared.node.Node.{Node}
@@ -34,10 +34,8 @@ pub record IsSound {S : Type 0} (guests : Meaning S) (number period : ℕ) (open
   pub own : AllByRecursion (λ e. e.router ≡ number) part.done
   pub todo : AllByRecursion (MayWait number bound) part.todo
   pub voids : AllByRecursion (MayWait number bound) part.voids
-  -- a node is kept for each number of entries from this one on, which isn't past the number of those committed
-  pub from : ℕ
-  pub reach : from ≤ counted
-  pub kept : shelf ≡ kept_from from (nodes_over guests 0 opening part.done)
+  -- a node is kept for each number of entries that isn't below the number of those committed
+  pub kept : shelf ≡ kept_from counted (nodes_over guests 0 opening part.done)
   -- how many of voids were handled
   pub wrong : marked ≡ marked_in part.done part.voids
   pub committed : counted ≡ length (below bound part.done)

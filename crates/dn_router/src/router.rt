@@ -38,7 +38,7 @@ pub struct Router<G: Guest> {
     /// What was handled, in order.
     done: Vec<Event>,
     queue: InQueue,
-    /// The nodes after n, n + 1, .. entries of `done`, for some n that isn't past the number of those committed.
+    /// The nodes after n, n + 1, .. entries of `done`, where n is the number of those committed.
     shelf: Shelf<G>,
     /// How many unsends wait whose event was handled.
     wrong: u64,

@@ -32,8 +32,7 @@ trim-requires-after_bounds g c κs within =
     let rising : IsPast c.self.inside.bound key = subst (λ b. IsPast b key) (sym (ap (λ s. s.bound) c.self.view_is)) c.requires.rising in
     let fewer = fewer_below c.self.inside.bound key done rising in
     let before = c.self.invariant.committed in
-    let reach = c.self.invariant.reach in
-    has_is g.G.Guest.meaning c.self.inside.opening done c.self.invariant.from c.count_below-count.result c.self.inside.shelf (omega (arith, count, fewer, before, reach)) (done_reached c.self.invariant) c.self.invariant.kept
+    has_is g.G.Guest.meaning c.self.inside.opening done c.self.inside.committed c.count_below-count.result c.self.inside.shelf (omega (arith, count, fewer, before)) (done_reached c.self.invariant) c.self.invariant.kept
 
 pub invariant_of-self : goal.invariant_of-self
 invariant_of-self g c =
@@ -49,11 +48,10 @@ invariant_of-self g c =
     let fewer = fewer_below c.self.inside.bound key done rising in
     let short = below_short key done in
     let before = c.self.invariant.committed in
-    let reach = c.self.invariant.reach in
     let nodes = nodes_over m 0 c.self.inside.opening done in
     let shelf : c.trim.new.self ≡ kept_from c.count_below-count.result nodes =
-    trimmed m c.self.inside.opening done c.self.invariant.from c.count_below-count.result c.self.inside.shelf c.trim.new.self
-    (omega (arith, count, fewer, before, reach)) (omega (arith, count, short)) c.self.invariant.kept c.trim.ensures in
+    trimmed m c.self.inside.opening done c.self.inside.committed c.count_below-count.result c.self.inside.shelf c.trim.new.self
+    (omega (arith, count, fewer, before)) (omega (arith, count, short)) c.self.invariant.kept c.trim.ensures in
     let on_count = subst (λ (k : ℕ). IsSound m c.self.inside.number c.self.inside.timing.period c.self.inside.opening p (kept_from k nodes) c.self.inside.wrong k key) count sound in
     subst (λ (l : List (ℕ × Node g.row.G.Denot)). IsSound m c.self.inside.number c.self.inside.timing.period c.self.inside.opening p l c.self.inside.wrong c.count_below-count.result key) (sym shelf) on_count
 

@@ -21,7 +21,7 @@ pub base_for-requires-after_bounds : goal.base_for-requires-after_bounds
 base_for-requires-after_bounds g c κs within =
     let place : c.first_wrong-place.result ≡ length (until (is_wrong c.self.inside.queue) c.self.inside.done.items) = c.first_wrong-place.ensures ∙ ap (λ (l : List Event). length (until (is_wrong c.self.inside.queue) l)) c.as_slice.ensures.value in
     let reached = place_reached g.G.Guest.meaning c.self.inside.number c.self.inside.timing.period c.self.inside.opening c.self.inside.done.items c.self.inside.queue c.first_wrong-place.result c.self.inside.shelf c.self.inside.wrong c.self.inside.committed c.self.inside.bound c.self.invariant place in
-    has_is g.G.Guest.meaning c.self.inside.opening c.self.inside.done.items c.self.invariant.from c.first_wrong-place.result c.self.inside.shelf reached (done_reached c.self.invariant) c.self.invariant.kept
+    has_is g.G.Guest.meaning c.self.inside.opening c.self.inside.done.items c.self.inside.committed c.first_wrong-place.result c.self.inside.shelf reached (done_reached c.self.invariant) c.self.invariant.kept
 
 pub returns-in_err-node-clause-err : goal.returns-in_err-node-clause-err
 returns-in_err-node-clause-err g c = on_err_all c.from_residual.result (record { part = c.args.self.now.part; is = refl })
@@ -52,7 +52,7 @@ pub cut-requires-after_bounds : goal.cut-requires-after_bounds
 cut-requires-after_bounds g c κs within =
     let place : c.first_wrong-place.result ≡ length (until (is_wrong c.self.inside.queue) c.self.inside.done.items) = c.first_wrong-place.ensures ∙ ap (λ (l : List Event). length (until (is_wrong c.self.inside.queue) l)) c.as_slice.ensures.value in
     let reached = place_reached g.G.Guest.meaning c.self.inside.number c.self.inside.timing.period c.self.inside.opening c.self.inside.done.items c.self.inside.queue c.first_wrong-place.result c.self.inside.shelf c.self.inside.wrong c.self.inside.committed c.self.inside.bound c.self.invariant place in
-    has_is g.G.Guest.meaning c.self.inside.opening c.self.inside.done.items c.self.invariant.from c.first_wrong-place.result c.self.inside.shelf reached (done_reached c.self.invariant) c.self.invariant.kept
+    has_is g.G.Guest.meaning c.self.inside.opening c.self.inside.done.items c.self.inside.committed c.first_wrong-place.result c.self.inside.shelf reached (done_reached c.self.invariant) c.self.invariant.kept
 
 pub invariant_of-self-in_err-take_back : goal.invariant_of-self-in_err-take_back
 invariant_of-self-in_err-take_back g c =
@@ -88,7 +88,7 @@ returns-clause-unsent g c =
     let place : c.first_wrong-place.result ≡ length (until (is_wrong q) done) = c.first_wrong-place.ensures ∙ ap (λ (l : List Event). length (until (is_wrong q) l)) c.as_slice.ensures.value in
     let reached = place_reached g.G.Guest.meaning c.self.inside.number c.self.inside.timing.period c.self.inside.opening c.self.inside.done.items c.self.inside.queue c.first_wrong-place.result c.self.inside.shelf c.self.inside.wrong c.self.inside.committed c.self.inside.bound c.self.invariant place in
     let short = place_short done q c.first_wrong-place.result place in
-    let node = c.in_ok-node.ensures ∙ (base_front m c.self.inside.opening done c.self.invariant.from c.first_wrong-place.result c.self.inside.shelf c.base_for.result.0 c.base_for.result.1.now reached short c.self.invariant.kept c.base_for.ensures.place c.base_for.ensures.node).1 in
+    let node = c.in_ok-node.ensures ∙ (base_front m c.self.inside.opening done c.self.inside.committed c.first_wrong-place.result c.self.inside.shelf c.base_for.result.0 c.base_for.result.1.now reached short c.self.invariant.kept c.base_for.ensures.place c.base_for.ensures.node).1 in
     let off : c.rest.result.now ≡ drop c.first_wrong-place.result done = c.rest.ensures ∙ ap (λ (l : List Event). drop c.first_wrong-place.result l) c.as_slice-3.ensures.value in
     unsent_is m s done q c.first_wrong-place.result c.in_ok-node.node c.rest.result.now c.in_ok-unsent.unsent.items refl place node off
     (c.in_ok-unsent.ensures ∙ ap (λ (l : List End). emitted_over m c.self.inside.timing l c.in_ok-node.node c.rest.result.now) c.as_slice-2.ensures.value)
