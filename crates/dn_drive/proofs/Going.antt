@@ -89,10 +89,10 @@ pub record Goes (h : Heading) (feed : List External) (w : World) (xs : List Exte
   pub no_more : w.closed ≡ true → xs ≡ []
 
 -- as far as the feed goes the world is as before
-record IsSame (v w : World) : Type 0 where
-  accepted : w.accepted ≡ v.accepted
-  floor : w.floor ≡ v.floor
-  closed : w.closed ≡ v.closed
+pub record IsSame (v w : World) : Type 0 where
+  pub accepted : w.accepted ≡ v.accepted
+  pub floor : w.floor ≡ v.floor
+  pub closed : w.closed ≡ v.closed
 
 goes_same : (h : Heading) (feed : List External) (v w : World) (xs : List External) → IsSame v w → Goes h feed v xs → Goes h feed w xs
 goes_same h feed v w xs s g =
@@ -103,7 +103,7 @@ goes_same h feed v w xs s g =
       no_more = λ c. g.no_more (sym s.closed ∙ c);
     }
 
-deliver_same : (w : World) (place : ℕ) (o : Option Packet) → IsSame w (deliver w place o)
+pub deliver_same : (w : World) (place : ℕ) (o : Option Packet) → IsSame w (deliver w place o)
 unfolding deliver
 deliver_same w place None = record { accepted = refl; floor = refl; closed = refl }
 deliver_same w place (Some k) = record { accepted = refl; floor = refl; closed = refl }
@@ -120,7 +120,7 @@ not_past h low (x ∷ xs) a =
     (rises, all_weaker (λ y. x.group ≤ y.group) (λ y. low ≤ y.group) xs (λ y g. omega (arith, rises, g)) (not_past h x.group xs a.1))
 
 module _ {S : Type 0} (net : Network S) where
-  handle_same : (w : World) (r : ℕ) (p : Part) (es : List Event) → IsSame w (handle net w r p es)
+  pub handle_same : (w : World) (r : ℕ) (p : Part) (es : List Event) → IsSame w (handle net w r p es)
   unfolding handle
   handle_same w r p [] = record { accepted = refl; floor = refl; closed = refl }
   handle_same w r p (e ∷ es) = record { accepted = refl; floor = refl; closed = refl }
