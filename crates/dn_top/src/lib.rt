@@ -49,10 +49,12 @@ mod rerun;
 mod shake;
 mod shown;
 mod status;
+mod threads;
 mod top;
 mod words;
 mod written;
 
 pub use status::{Status, status_line, status_number};
 pub use top::{defined_plain, defined_top};
-pub use words::{Command, Schedule, command_of};
+pub use words::{Command, RunOptions, Schedule, command_of};
+pub use dn_workers::{Gate, OpenGate};
