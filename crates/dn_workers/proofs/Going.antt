@@ -22,10 +22,10 @@ use Rattle.dn_turn.specs.Seat.{SeatView, holding, released_seat, MayPut}
 use Rattle.dn_workers.specs.Holds.{HasTaken, HasGoneOn, IsOver}
 use Rattle.dn_workers.specs.Work.{HasWorked, IsAtEnd, LeadsToEnd, IsDone}
 
-prefix_self : {A : Type 0} (xs : List A) → IsPrefixOf xs xs
+pub prefix_self : {A : Type 0} (xs : List A) → IsPrefixOf xs xs
 prefix_self xs = ([], append-nil xs)
 
-prefix_trans : {A : Type 0} (xs ys zs : List A) → IsPrefixOf xs ys → IsPrefixOf ys zs → IsPrefixOf xs zs
+pub prefix_trans : {A : Type 0} (xs ys zs : List A) → IsPrefixOf xs ys → IsPrefixOf ys zs → IsPrefixOf xs zs
 prefix_trans xs ys zs p q = (p.0 ++ q.0, sym (append_assoc xs p.0 q.0) ∙ (ap (λ w. w ++ q.0) p.1 ∙ q.1))
 
 fed_did : (xs : List Entry) (s : Step) → feeds_step s ≡ false → fed (xs ++ Did s ∷ []) ≡ fed xs

@@ -1,2 +1,6 @@
 mod Beats
+mod Ended
+mod Gathering
+mod Feeds
 pub mod Going
+mod Whole

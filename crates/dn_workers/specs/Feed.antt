@@ -1,6 +1,7 @@
 -- What a feeder adds to a fabric, and to the log that its seat has seen.
 use Rattle.std.specs.Prelude.{◌≡◌, ◌⊎◌, ◌≤◌, ℕ, suc, Bool, true, false, List, [], ◌∷◌, ◌++◌, map, replicate}
 use Rattle.dn_model.specs.declared.feed.External.{External}
+use Rattle.dn_model.specs.Cases.{Heading}
 use Rattle.dn_world.specs.declared.entry.Entry.{Entry}
 use Rattle.dn_world.specs.declared.entry.Entry.TheVariants.{Did}
 use Rattle.dn_world.specs.declared.step.Step.{Step}
@@ -8,7 +9,8 @@ use Rattle.dn_world.specs.declared.step.Step.TheVariants.{Beacon, Inject, Close,
 use Rattle.dn_world.specs.Logs.{fed, is_stopped}
 use Rattle.dn_world.specs.Runs.{injects}
 use Rattle.dn_fabric.specs.Fabrics.{Fabric, HasHalted}
-use Rattle.dn_record.specs.Feeding.{last_group}
+use Rattle.dn_record.specs.declared.feeder.Fed.{Fed}
+use Rattle.dn_record.specs.Feeding.{last_group, HasGiven}
 
 module _ {S : Type 0} where
   -- these steps were taken and no others, and the fabric runs; the floor is this group, and whether the feed is closed
@@ -64,3 +66,17 @@ pub record IsFedWith (given : List External) (closed : Bool) (seen : List Entry)
 -- the last of the fed steps closes
 abbrev pub EndsWithClose : List Entry → Type 0
 EndsWithClose seen = (front : List Entry) × (fed seen ≡ front ++ Did Close ∷ [])
+
+-- what the fed steps of a log are between two holds of its feeder, which has given these externals: they inject just these, in order and with their stamps, the last group begun is that of the last one, and they don't close
+pub record IsFedUpTo (given : List External) (seen : List Entry) : Type 0 where
+  pub steps : List Step
+  pub is : fed seen ≡ map Did steps
+  pub injected : injects steps ≡ given
+  pub begun : begun steps ≡ last_group 0 given
+  pub unclosed : closes steps ≡ false
+
+-- the log was fed with all that the feeder had given before it answered this, and by now the feeder has given these externals, and has closed or hasn't
+pub record IsDue (h : Heading) (seen : List Entry) (fed : Fed) (given : List External) (closed : Bool) : Type 0 where
+  pub before : List External
+  pub up_to : IsFedUpTo before seen
+  pub answer : HasGiven h before fed given closed

@@ -23,6 +23,8 @@ mod feeder;
 mod feeding;
 mod gate;
 mod holding;
+mod laws;
+mod seats;
 mod threads;
 mod worker;
 
