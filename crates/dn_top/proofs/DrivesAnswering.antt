@@ -1,7 +1,7 @@
 -- What `rerun` and `shake` answer, from their parts.
 use Rattle.std.proofs.Common.{◌≡◌, ℕ, ◌<◌, inl, inr, true, false, List, length, Option, Some, None, refl, sym, subst}
 use Rattle.std.specs.Prelude.{IfSome}
-use Rattle.dn_model.specs.Cases.{Heading, Recording}
+use Rattle.dn_model.specs.Cases.{Recording}
 use Rattle.dn_world.specs.declared.step.Step.{Step}
 use Rattle.dn_drive.specs.declared.ended.Ended.{Ended}
 use Rattle.dn_drive.specs.declared.ended.Ended.TheVariants as ended

@@ -1,5 +1,5 @@
 -- What `run` answers, from its parts; and where nothing fails, that is what its input asks for.
-use Rattle.std.proofs.Common.{◌≡◌, ◌⊎◌, ℕ, ◌<◌, ◌≤◌, Bool, true, false, inl, inr, List, [], length, Option, Some, None, refl, subst}
+use Rattle.std.proofs.Common.{◌≡◌, ◌⊎◌, ℕ, ◌<◌, Bool, true, false, inl, inr, List, length, Option, Some, None, refl, subst}
 use Rattle.std.specs.Prelude.{IfSome}
 use Rattle.dn_io.specs.Streams.{Rose}
 use Rattle.dn_model.specs.Cases.{Recording}

@@ -1,5 +1,5 @@
 -- A fabric that has ended shows the run of its case, and its steps are such a run.
-use Rattle.std.proofs.Common.{◌≡◌, ◌⊎◌, ℕ, Bool, true, false, inl, inr, List, [], ◌++◌, refl, sym, ap, subst, ◌∙◌, append-nil}
+use Rattle.std.proofs.Common.{◌≡◌, Bool, true, false, inl, inr, List, [], refl, sym, ap, subst, ◌∙◌, append-nil}
 use Rattle.dn_model.specs.declared.feed.External.{External}
 use Rattle.dn_model.specs.Cases.{Heading, Recording}
 use Rattle.dn_model.specs.Settled.{is_cut, lockstep, shown_rows}
