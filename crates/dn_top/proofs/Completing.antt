@@ -11,7 +11,7 @@ use Rattle.dn_case.specs.declared.cause.CaseFault.{CaseFault}
 use Rattle.dn_trace.specs.Differing.{DiffersAt}
 use Rattle.dn_top.specs.declared.status.Status.{Status}
 use Rattle.dn_top.specs.declared.status.Status.TheVariants as status
-use Rattle.dn_top.specs.Promises.{HasCase, IsBadCase, HasItsTrace, HasOtherTrace, AnswersRun, AnswersCheck, is_cut_case, trace_of, input_limit}
+use Rattle.dn_top.specs.Promises.{HasCase, IsBadCase, HasItsTrace, HasOtherTrace, AnswersLockstep, AnswersCheck, is_cut_case, trace_of, input_limit}
 use Rattle.dn_top.specs.Completeness.{HasOneReading, HasRun, RunOwes, whole_run, cut_run, no_case, too_big, CheckOwes, whole_trace, cut_trace, other_trace, no_case_to_check, too_big_to_check, IsCalm, IsAnswered}
 
 absurd_bool : {A : Type 0} → false ≡ true → A
@@ -31,9 +31,9 @@ no_bad_line input c n f has bad = absurd (bad.none has.front.count c has.front.w
 same_cut : (input : Input) (x y : Bool) → HasRun input.bytes x → HasRun input.bytes y → x ≡ y
 same_cut input x y p q = sym p.is ∙ ap is_cut_case (input.one.case p.case q.case p.size q.size p.has q.has).0 ∙ q.is
 
--- ---- one answer to `run`
+-- ---- one answer to `run` and `lockstep`
 
-run_owes_one : (input : Input) (s t : Status) → RunOwes input.bytes s → RunOwes input.bytes t → s ≡ t
+pub run_owes_one : (input : Input) (s t : Status) → RunOwes input.bytes s → RunOwes input.bytes t → s ≡ t
 run_owes_one input s t (whole_run p) (whole_run q) = refl
 run_owes_one input s t (whole_run p) (cut_run q) = absurd_bool (same_cut input false true p q)
 run_owes_one input s t (whole_run p) (no_case f q) = no_bad_line input p.case p.size f p.has q
@@ -51,20 +51,20 @@ run_owes_one input s t (too_big p) (cut_run q) = too_long q.has.within p
 run_owes_one input s t (too_big p) (no_case f q) = too_long q.within p
 run_owes_one input s t (too_big p) (too_big q) = refl
 
--- ---- what `run` answers is what it owes, or a failure
+-- ---- what `lockstep` answers is what it owes, or a failure
 
-run_gives : (input : List ℕ) (s : Status) (old now : Option (List ℕ)) → AnswersRun s input old now → (s ≡ status.ReadFault → ⊥) → (s ≡ status.WriteFault → ⊥) → RunOwes input s ⊎ (s ≡ status.NoMemory)
-run_gives input status.Ok old now a read write = inl (whole_run (record { case = a.case; size = a.size; has = a.has; is = a.is }))
-run_gives input status.Cut old now a read write = inl (cut_run (record { case = a.case; size = a.size; has = a.has; is = a.is }))
-run_gives input (status.BadCase f) old now a read write = inl (no_case f a.0)
-run_gives input status.TooBig old now a read write = inl (too_big a.0)
-run_gives input status.NoMemory old now a read write = inr refl
-run_gives input status.ReadFault old now a read write = absurd (read refl)
-run_gives input status.WriteFault old now a read write = absurd (write refl)
-run_gives input (status.Differs p) old now a read write = absurd a
-run_gives input status.Usage old now a read write = absurd a
-run_gives input (status.Illegal i) old now a read write = absurd a
-run_gives input status.Open old now a read write = absurd a
+lockstep_gives : (input : List ℕ) (s : Status) (old now : Option (List ℕ)) → AnswersLockstep s input old now → (s ≡ status.ReadFault → ⊥) → (s ≡ status.WriteFault → ⊥) → RunOwes input s ⊎ (s ≡ status.NoMemory)
+lockstep_gives input status.Ok old now a read write = inl (whole_run (record { case = a.case; size = a.size; has = a.has; is = a.is }))
+lockstep_gives input status.Cut old now a read write = inl (cut_run (record { case = a.case; size = a.size; has = a.has; is = a.is }))
+lockstep_gives input (status.BadCase f) old now a read write = inl (no_case f a.0)
+lockstep_gives input status.TooBig old now a read write = inl (too_big a.0)
+lockstep_gives input status.NoMemory old now a read write = inr refl
+lockstep_gives input status.ReadFault old now a read write = absurd (read refl)
+lockstep_gives input status.WriteFault old now a read write = absurd (write refl)
+lockstep_gives input (status.Differs p) old now a read write = absurd a
+lockstep_gives input status.Usage old now a read write = absurd a
+lockstep_gives input (status.Illegal i) old now a read write = absurd a
+lockstep_gives input status.Open old now a read write = absurd a
 
 -- ---- one first difference
 
@@ -157,17 +157,17 @@ check_gives input status.Open a read = absurd a
 pub calm : (old now : ℕ) → IsCalm old now → Rose old now → ⊥
 calm old now below rose = omega (arith, below, rose)
 
-answered : {Owed : Status → Type 0} (one : (s t : Status) → Owed s → Owed t → s ≡ t) (owed s : Status) → Owed owed → Owed s ⊎ (s ≡ status.NoMemory) → IsAnswered owed s
+pub answered : {Owed : Status → Type 0} (one : (s t : Status) → Owed s → Owed t → s ≡ t) (owed s : Status) → Owed owed → Owed s ⊎ (s ≡ status.NoMemory) → IsAnswered owed s
 answered one owed s o given =
     elim given [
       | inl g ↦ inl (one s owed g o)
       | inr none ↦ inr none
     ]
 
-pub run_completes : (told : Option (List ℕ)) → IfSome told HasOneReading → (s : Status) (old now : Option (List ℕ)) (reads read writes wrote : ℕ) → IfSome told (λ input. AnswersRun s input old now) → (s ≡ status.ReadFault → Rose reads read) → (s ≡ status.WriteFault → Rose writes wrote) → IfSome told (λ input. (owed : Status) → RunOwes input owed → IsCalm reads read → IsCalm writes wrote → IsAnswered owed s)
-run_completes None reading s old now reads read writes wrote answers read_fault write_fault = tt
-run_completes (Some input) reading s old now reads read writes wrote answers read_fault write_fault = λ owed owes calm_source calm_sink.
-    answered (run_owes_one (record { bytes = input; one = reading })) owed s owes (run_gives input s old now answers (λ is. calm reads read calm_source (read_fault is)) (λ is. calm writes wrote calm_sink (write_fault is)))
+pub lockstep_completes : (told : Option (List ℕ)) → IfSome told HasOneReading → (s : Status) (old now : Option (List ℕ)) (reads read writes wrote : ℕ) → IfSome told (λ input. AnswersLockstep s input old now) → (s ≡ status.ReadFault → Rose reads read) → (s ≡ status.WriteFault → Rose writes wrote) → IfSome told (λ input. (owed : Status) → RunOwes input owed → IsCalm reads read → IsCalm writes wrote → IsAnswered owed s)
+lockstep_completes None reading s old now reads read writes wrote answers read_fault write_fault = tt
+lockstep_completes (Some input) reading s old now reads read writes wrote answers read_fault write_fault = λ owed owes calm_source calm_sink.
+    answered (run_owes_one (record { bytes = input; one = reading })) owed s owes (lockstep_gives input s old now answers (λ is. calm reads read calm_source (read_fault is)) (λ is. calm writes wrote calm_sink (write_fault is)))
 
 pub check_completes : (told : Option (List ℕ)) → IfSome told HasOneReading → (s : Status) (reads read writes wrote : ℕ) → IfSome told (λ input. AnswersCheck s input) → (s ≡ status.ReadFault → Rose reads read) → IfSome told (λ input. (owed : Status) → CheckOwes input owed → IsCalm reads read → IsCalm writes wrote → IsAnswered owed s)
 check_completes None reading s reads read writes wrote answers read_fault = tt

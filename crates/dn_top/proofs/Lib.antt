@@ -6,4 +6,6 @@ pub mod Showing
 pub mod Places
 pub mod DrivesAnswering
 pub mod DrivesCompleting
+pub mod RunAnswering
+pub mod Running
 pub mod Promising

@@ -4,15 +4,18 @@ use Rattle.std.specs.Prelude.{IfSome}
 use Rattle.dn_io.specs.Streams.{Rose, Gives}
 use Rattle.dn_top.specs.declared.status.Status.{Status}
 use Rattle.dn_top.specs.declared.status.Status.TheVariants as status
+use Rattle.dn_top.specs.declared.words.RunOptions.{RunOptions}
 use Rattle.dn_top.specs.declared.words.Command.{Command}
 use Rattle.dn_top.specs.declared.words.Command.TheVariants as command
+use Rattle.dn_top.specs.Words.{plain_of}
 use Rattle.dn_top.specs.Promises.{Answers, IsCaseRefusal, input_limit, is_of_whole_input, is_of_reading, is_of_command, is_of_case, is_of_comparing}
 use Rattle.dn_top.specs.Completeness.{HasOneReading, Owes, IsCalm, IsAnswered}
 use Rattle.dn_top.specs.Drives.{HasOneJournal, is_of_steps}
 use Rattle.dn_top.specs.Commands.{Streams, Promise, Fulfils, GaveAll, Refuses, streams, writes_nothing, is_early}
-use Rattle.dn_top.proofs.Answering.{if_told, read_refused_run, read_refused_check, case_refused_run, case_refused_check, not_of_whole, reading_of_command, refusal_of_case, case_of_command, never_usage, never_read_fault, never_too_big}
+use Rattle.dn_top.proofs.Answering.{if_told, read_refused_lockstep, read_refused_check, case_refused_lockstep, case_refused_check, not_of_whole, reading_of_command, refusal_of_case, case_of_command, never_usage, never_read_fault, never_too_big}
 use Rattle.dn_top.proofs.DrivesAnswering.{read_refused_rerun, read_refused_shake, case_refused_rerun, case_refused_shake, reading_of_no_steps, refusal_of_no_steps}
-use Rattle.dn_top.proofs.Completing.{run_completes, check_completes}
+use Rattle.dn_top.proofs.RunAnswering.{read_refused_run, case_refused_run, run_completes}
+use Rattle.dn_top.proofs.Completing.{lockstep_completes, check_completes}
 use Rattle.dn_top.proofs.DrivesCompleting.{rerun_completes, shake_completes}
 
 absurd_bool : {A : Type 0} → false ≡ true → A
@@ -22,8 +25,8 @@ absurd_bool is = cc
 
 completes : (task : Command) (told : Option (List ℕ)) → IfSome told HasOneReading → (s : Status) (old now : Option (List ℕ)) (reads read writes wrote : ℕ) → IfSome told (λ input. Answers task s input old now) → (is_of_steps s ≡ true → task ≡ command.Rerun → IfSome told (λ input. HasOneJournal input)) → (s ≡ status.ReadFault → Rose reads read) → (s ≡ status.WriteFault → Rose writes wrote) → IfSome told (λ input. (owed : Status) → Owes task input owed → IsCalm reads read → IsCalm writes wrote → IsAnswered owed s)
 completes task None reading s old now reads read writes wrote answers one read_fault write_fault = tt
-completes command.Run (Some l) reading s old now reads read writes wrote answers one read_fault write_fault = run_completes (Some l) reading s old now reads read writes wrote answers read_fault write_fault
-completes command.Lockstep (Some l) reading s old now reads read writes wrote answers one read_fault write_fault = run_completes (Some l) reading s old now reads read writes wrote answers read_fault write_fault
+completes (command.Run o) (Some l) reading s old now reads read writes wrote answers one read_fault write_fault = run_completes o (Some l) reading s old now reads read writes wrote answers read_fault write_fault
+completes command.Lockstep (Some l) reading s old now reads read writes wrote answers one read_fault write_fault = lockstep_completes (Some l) reading s old now reads read writes wrote answers read_fault write_fault
 completes command.Check (Some l) reading s old now reads read writes wrote answers one read_fault write_fault = check_completes (Some l) reading s reads read writes wrote answers.0 read_fault
 completes command.Rerun (Some l) reading s old now reads read writes wrote answers one read_fault write_fault = rerun_completes (Some l) reading s old now reads read writes wrote answers (λ steps. one steps refl) read_fault write_fault
 completes (command.Shake w) (Some l) reading s old now reads read writes wrote answers one read_fault write_fault = shake_completes w (Some l) reading s old now reads read writes wrote answers read_fault write_fault
@@ -74,8 +77,8 @@ reads_one each (Some input) = each input
 
 reading_answers : (task : Command) (told : Option (List ℕ)) (s : Status) (held : Option (List ℕ)) → is_of_reading s ≡ true → (s ≡ status.TooBig → IfSome told (λ l. input_limit < length l)) → IfSome told (λ input. Answers task s input held held)
 reading_answers task None s held of_reading long = tt
-reading_answers command.Run (Some l) s held of_reading long = read_refused_run (Some l) s held held of_reading long refl
-reading_answers command.Lockstep (Some l) s held of_reading long = read_refused_run (Some l) s held held of_reading long refl
+reading_answers (command.Run o) (Some l) s held of_reading long = read_refused_run o (Some l) s held held of_reading long refl
+reading_answers command.Lockstep (Some l) s held of_reading long = read_refused_lockstep (Some l) s held held of_reading long refl
 reading_answers command.Check (Some l) s held of_reading long = (read_refused_check (Some l) s of_reading long, refl)
 reading_answers command.Rerun (Some l) s held of_reading long = read_refused_rerun (Some l) s held held of_reading long refl
 reading_answers (command.Shake w) (Some l) s held of_reading long = read_refused_shake w (Some l) s held held of_reading long refl
@@ -92,8 +95,8 @@ reading_refused each s left left_now reads read of_reading long too_big not_too_
 -- ---- refusals of the case
 
 case_answers : (task : Command) (input : List ℕ) (s : Status) (held : Option (List ℕ)) → IsCaseRefusal input s → Answers task s input held held
-case_answers command.Run input s held refused = case_refused_run input s held refused
-case_answers command.Lockstep input s held refused = case_refused_run input s held refused
+case_answers (command.Run o) input s held refused = case_refused_run o input s held refused
+case_answers command.Lockstep input s held refused = case_refused_lockstep input s held refused
 case_answers command.Check input s held refused = (case_refused_check input s refused, refl)
 case_answers command.Rerun input s held refused = case_refused_rerun input s held refused
 case_answers (command.Shake w) input s held refused = case_refused_shake w input s held refused
@@ -124,7 +127,7 @@ never_early (status.Illegal i) of_case early = cc
 never_early status.Open of_case early = cc
 
 silent_driver : (task : Command) (input : List ℕ) (s : Status) (held held_now : Option (List ℕ)) → is_of_case s ≡ true → Answers task s input held held_now → writes_nothing (Some task) s ≡ true → held_now ≡ held
-silent_driver command.Run input s held held_now of_case answers nothing = never_early s of_case nothing
+silent_driver (command.Run o) input s held held_now of_case answers nothing = never_early s of_case nothing
 silent_driver command.Lockstep input s held held_now of_case answers nothing = never_early s of_case nothing
 silent_driver command.Check input s held held_now of_case answers nothing = answers.1
 silent_driver command.Rerun input s held held_now of_case answers nothing = never_early s of_case nothing
@@ -146,3 +149,21 @@ same_task task other input s held held_now writes wrote is did = subst (λ (t : 
 
 pub never_of_comparing : {A : Type 0} (s : Status) → is_of_comparing s ≡ true → s ≡ status.WriteFault → A
 never_of_comparing s only is = absurd_bool (subst (λ (t : Status). is_of_comparing t ≡ true) is only)
+
+-- the command isn't `run`
+pub is_plain : (asked : Option Command) → ((o : RunOptions) → asked ≡ Some (command.Run o) → ⊥) → plain_of asked ≡ asked
+is_plain None other = refl
+is_plain (Some (command.Run o)) other = absurd (other o refl)
+is_plain (Some command.Lockstep) other = refl
+is_plain (Some command.Check) other = refl
+is_plain (Some command.Rerun) other = refl
+is_plain (Some (command.Shake w)) other = refl
+
+-- a command that waits for nobody stays itself
+pub stays_plain : (asked : Option Command) (plain : Command) → plain_of asked ≡ Some plain → plain_of (Some plain) ≡ Some plain
+stays_plain None plain is = cc
+stays_plain (Some (command.Run o)) plain is = cc
+stays_plain (Some command.Lockstep) plain is = subst (λ (a : Option Command). plain_of a ≡ a) is refl
+stays_plain (Some command.Check) plain is = subst (λ (a : Option Command). plain_of a ≡ a) is refl
+stays_plain (Some command.Rerun) plain is = subst (λ (a : Option Command). plain_of a ≡ a) is refl
+stays_plain (Some (command.Shake w)) plain is = subst (λ (a : Option Command). plain_of a ≡ a) is refl

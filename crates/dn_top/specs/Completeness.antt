@@ -59,7 +59,7 @@ pub data ShakeOwes (s : Schedule) (input : List ℕ) : Status → Type 0 where
 
 -- what a command has to answer to an input
 abbrev pub Owes : Command → List ℕ → Status → Type 0
-Owes command.Run input s = RunOwes input s
+Owes (command.Run options) input s = RunOwes input s
 Owes command.Lockstep input s = RunOwes input s
 Owes command.Check input s = CheckOwes input s
 Owes command.Rerun input s = RerunOwes input s

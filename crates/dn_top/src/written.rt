@@ -31,7 +31,7 @@ pub(crate) enum Shown<'a> {
 }
 
 /// Writes the recording and the trace of the lockstep run.
-pub(crate) fn run_case<K: Sink>(alloc: Global, case: &Case, sink: &mut K) -> Status
+pub(crate) fn lockstep_case<K: Sink>(alloc: Global, case: &Case, sink: &mut K) -> Status
     ensures answers { Writes case.now (written case.now) result (K.holds sink.old) (K.holds sink.new) }
     ensures fault { result ≡ Status.WriteFault → Rose (K.faults sink.old) (K.faults sink.new) }
     ensures later { K.faults sink.old ≤ K.faults sink.new }

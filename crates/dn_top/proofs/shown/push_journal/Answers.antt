@@ -4,7 +4,7 @@ use Rattle.dn_model.specs.Cases.{IsHeading}
 use Rattle.dn_world.specs.declared.step.Step.{Step}
 use Rattle.dn_journal.specs.Spelling.{IsOf}
 use Rattle.dn_top.specs.Promises.{network_of}
-use Rattle.dn_top.proofs.shake.push_journal.Goals as goal
+use Rattle.dn_top.proofs.shown.push_journal.Goals as goal
 
 pub write_journal-requires : goal.write_journal-requires
 write_journal-requires c =

@@ -1,7 +1,7 @@
 use Rattle.std.proofs.Common.{List, ℕ, ◌++◌, ap, ◌∙◌, append-nil}
 use Rattle.dn_top.specs.Promises.{written}
 use Rattle.dn_top.proofs.Showing.{writes_same}
-use Rattle.dn_top.proofs.written.run_case.Goals as goal
+use Rattle.dn_top.proofs.written.lockstep_case.Goals as goal
 
 pub returns-clause-answers : goal.returns-clause-answers
 returns-clause-answers g c =

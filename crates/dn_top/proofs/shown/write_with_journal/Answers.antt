@@ -1,7 +1,7 @@
 use Rattle.std.proofs.Common.{◌++◌}
 use Rattle.dn_top.specs.Promises.{written, shaken}
 use Rattle.dn_top.proofs.Showing.{writes_same, shaken_is}
-use Rattle.dn_top.proofs.shake.write_shaken.Goals as goal
+use Rattle.dn_top.proofs.shown.write_with_journal.Goals as goal
 
 pub returns-in-Ok-clause-answers : goal.returns-in-Ok-clause-answers
 returns-in-Ok-clause-answers g c =
