@@ -33,7 +33,12 @@ class Comparison:
         """Compares the program's answer with one that is given."""
         done = subprocess.run([self.path.encode(), *words], input=text, capture_output=True, check=False)
         self.count += 1
-        if (done.returncode, done.stderr, done.stdout) != (want.number, want.err, want.out):
+        out = done.stdout
+        if want.case is not None:
+            out, journal = out[:len(want.out)], out[len(want.out):]
+            if done.returncode == want.number and not program.is_journal_of_a_run(want.case, journal):
+                raise Different("no journal of the run is behind the trace\n" + self.difference(want, done, words, text))
+        if (done.returncode, done.stderr, out) != (want.number, want.err, want.out):
             raise Different(self.difference(want, done, words, text))
 
     def difference(self, want, done, words, text):

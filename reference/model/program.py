@@ -7,6 +7,7 @@ from .numbers import U64_MAX, decimal
 
 INPUT_LIMIT = 16_777_216
 MAX_STEPS = 1_000_000
+MAX_WORKERS = 16
 
 NUMBERS = {"ok": 0, "differs": 1, "usage": 2, "badcase": 3, "cut": 4,
            "readfault": 5, "writefault": 6, "nomemory": 7, "toobig": 8,
@@ -20,6 +21,8 @@ class Answer:
     status: str
     detail: str = ""
     out: bytes = b""
+    # the case, where behind `out` a journal of it has to follow that `is_journal_of_a_run` takes
+    case: object = None
 
     @property
     def number(self):
@@ -38,9 +41,27 @@ class Answer:
         return b"" if text is None else ("defined: %s\n" % text).encode()
 
 
+def run_of(options):
+    """("run", whether a journal is asked for, None) of the words behind `run`, or None."""
+    left, wants_journal, workers = list(options), False, None
+    while left:
+        option = left.pop(0)
+        if option == b"--journal" and not wants_journal:
+            wants_journal = True
+        elif option == b"--workers" and workers is None and left:
+            workers = decimal(left.pop(0))
+            if workers is None or not 1 <= workers <= MAX_WORKERS:
+                return None
+        else:
+            return None
+    return ("run", wants_journal, None)
+
+
 def plain(words):
     """(command, number, steps) of words that are a command, or None."""
-    if len(words) == 1 and words[0] in (b"run", b"lockstep", b"check", b"rerun"):
+    if words[:1] == [b"run"]:
+        return run_of(words[1:])
+    if len(words) == 1 and words[0] in (b"lockstep", b"check", b"rerun"):
         return (words[0].decode(), None, None)
     if len(words) == 4 and words[0] == b"shake" and words[2] == b"--steps":
         number, steps = decimal(words[1]), decimal(words[3])
@@ -68,8 +89,12 @@ def answer(words, text):
         case, length = casetext.read_case(text)
     except casetext.Fault as fault:
         return bad_line(fault.line, fault.cause)
-    if asked[0] in ("run", "lockstep"):
+    if asked[0] == "lockstep":
         return written(case)
+    if asked[0] == "run":
+        whole = written(case)
+        whole.case = case if asked[1] else None
+        return whole
     if asked[0] == "check":
         return checked(case, text[length:], length)
     if asked[0] == "rerun":
@@ -113,6 +138,15 @@ def rerun(case, text, length):
     if ending == "illegal":
         return Answer("illegal", str(number))
     return Answer("open") if ending == "open" else written(case)
+
+
+def is_journal_of_a_run(case, text):
+    """Whether the text is a journal of the case whose steps come to the end of its run, or to its cut."""
+    try:
+        steps = journal.read_journal(case, text)
+    except journal.JournalFault:
+        return False
+    return replay.rerun(case, steps)[0] not in ("illegal", "open")
 
 
 def shaken(case, number, most):

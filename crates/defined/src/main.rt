@@ -1,12 +1,12 @@
-//! The program `defined`: it makes the real source and sink, calls `defined_top` with its words, writes
-//! the status's line to standard error, and ends with the status's number.
+//! The program `defined`: it makes the real source and sink, calls `defined_top` with its words and a gate that
+//! holds up no worker, writes the status's line to standard error, and ends with the status's number.
 #![tactic(auto)]
 
 mod telling;
 
 use crate::telling::tell;
 use dn_io::{StdSink, StdSource};
-use dn_top::{Status, defined_top, status_number};
+use dn_top::{OpenGate, Status, defined_top, status_number};
 use std::alloc::AllocError;
 use std::env;
 use std::io::ErrorKind;
@@ -41,7 +41,8 @@ fn main(rt: HostRuntime) -> ExitCode {
         Some(words) => {
             let mut source = StdSource::new(rt.stdin());
             let mut sink = StdSink::new(rt.stdout());
-            defined_top(rt.alloc(), words.as_slice(), &mut source, &mut sink)
+            let words = words.as_slice();
+            defined_top(&rt, rt.alloc(), words, &mut source, &mut sink, &OpenGate)
         }
         None => Status::Usage,
     };

@@ -11,3 +11,4 @@ pub mod Scheduling
 pub mod Cutting
 pub mod Journals
 pub mod Outcomes
+pub mod Taken

@@ -77,6 +77,23 @@ pub fn schedules_are_taken<S>()
     dn_world::laws::equation::<S>();
 }
 
+/// A legal run is fed as the case of just what it injects asks, so each of its steps is taken: they come to `Cut`
+/// where they lead to a cut world, and to `Whole` where they lead to a quiet one that isn't cut, with its boundary
+/// at the horizon.
+pub fn legal_runs_are_taken<S>()
+    ensures cut { (net : Network S) (feed : List External) (steps : List Step) → IsLegal net steps →
+        injects steps ≡ feed → is_cut_off net (world net steps) ≡ true →
+        rerun net (opening (routers net)) feed 0 steps ≡ Cut }
+    ensures whole { (net : Network S) (feed : List External) (steps : List Step) → IsTimed net.header →
+        IsLegal net steps → injects steps ≡ feed → is_cut_off net (world net steps) ≡ false →
+        is_quiet (world net steps) ≡ true →
+        (world net steps).boundary ≡ horizon net.header (world net steps) →
+        rerun net (opening (routers net)) feed 0 steps ≡ Whole }
+{
+    dn_world::laws::before_the_first_step::<S>();
+    dn_world::laws::lasting::<S>();
+}
+
 /// A step that leaves a cut world where none was is a Commit. So a drive that ends with a cut ends with a
 /// Commit. What it asks of the world holds after every legal run (`dn_world::laws`).
 pub fn only_a_commit_cuts<S>()

@@ -4,7 +4,7 @@ use Rattle.std.specs.Prelude.{IfSome}
 use Rattle.dn_model.specs.Cases.{Recording}
 use Rattle.dn_top.specs.declared.status.Status.{Status}
 use Rattle.dn_top.specs.declared.status.Status.TheVariants as status
-use Rattle.dn_top.specs.Promises.{HasCase, IsOtherTrace, IsCaseRefusal, AnswersRun, AnswersCheck, written, trace_of, is_cut_case, input_limit, is_of_reading, is_of_comparing, is_of_case, is_of_command, is_of_whole_input}
+use Rattle.dn_top.specs.Promises.{HasCase, IsOtherTrace, IsCaseRefusal, AnswersLockstep, AnswersCheck, written, trace_of, is_cut_case, input_limit, is_of_reading, is_of_comparing, is_of_case, is_of_command, is_of_whole_input}
 use Rattle.dn_top.specs.Drives.{Writes}
 
 absurd_bool : {A : Type 0} → false ≡ true → A
@@ -17,19 +17,19 @@ if_told (Some l) xs P is p = subst P (sym is) p
 
 -- ---- refusals of reading
 
-pub read_refused_run : (told : Option (List ℕ)) (s : Status) (old now : Option (List ℕ)) → is_of_reading s ≡ true → (s ≡ status.TooBig → IfSome told (λ l. input_limit < length l)) → now ≡ old → IfSome told (λ input. AnswersRun s input old now)
-read_refused_run None s old now of_reading big same = tt
-read_refused_run (Some l) status.ReadFault old now of_reading big same = same
-read_refused_run (Some l) status.TooBig old now of_reading big same = (big refl, same)
-read_refused_run (Some l) status.NoMemory old now of_reading big same = inl same
-read_refused_run (Some l) status.Ok old now of_reading big same = cc
-read_refused_run (Some l) (status.Differs p) old now of_reading big same = cc
-read_refused_run (Some l) status.Usage old now of_reading big same = cc
-read_refused_run (Some l) (status.Illegal i) old now of_reading big same = cc
-read_refused_run (Some l) status.Open old now of_reading big same = cc
-read_refused_run (Some l) (status.BadCase f) old now of_reading big same = cc
-read_refused_run (Some l) status.Cut old now of_reading big same = cc
-read_refused_run (Some l) status.WriteFault old now of_reading big same = cc
+pub read_refused_lockstep : (told : Option (List ℕ)) (s : Status) (old now : Option (List ℕ)) → is_of_reading s ≡ true → (s ≡ status.TooBig → IfSome told (λ l. input_limit < length l)) → now ≡ old → IfSome told (λ input. AnswersLockstep s input old now)
+read_refused_lockstep None s old now of_reading big same = tt
+read_refused_lockstep (Some l) status.ReadFault old now of_reading big same = same
+read_refused_lockstep (Some l) status.TooBig old now of_reading big same = (big refl, same)
+read_refused_lockstep (Some l) status.NoMemory old now of_reading big same = inl same
+read_refused_lockstep (Some l) status.Ok old now of_reading big same = cc
+read_refused_lockstep (Some l) (status.Differs p) old now of_reading big same = cc
+read_refused_lockstep (Some l) status.Usage old now of_reading big same = cc
+read_refused_lockstep (Some l) (status.Illegal i) old now of_reading big same = cc
+read_refused_lockstep (Some l) status.Open old now of_reading big same = cc
+read_refused_lockstep (Some l) (status.BadCase f) old now of_reading big same = cc
+read_refused_lockstep (Some l) status.Cut old now of_reading big same = cc
+read_refused_lockstep (Some l) status.WriteFault old now of_reading big same = cc
 
 pub read_refused_check : (told : Option (List ℕ)) (s : Status) → is_of_reading s ≡ true → (s ≡ status.TooBig → IfSome told (λ l. input_limit < length l)) → IfSome told (λ input. AnswersCheck s input)
 read_refused_check None s of_reading big = tt
@@ -61,18 +61,18 @@ not_of_whole status.WriteFault of_reading whole = cc
 
 -- ---- refusals of the case
 
-pub case_refused_run : (input : List ℕ) (s : Status) (told : Option (List ℕ)) → IsCaseRefusal input s → AnswersRun s input told told
-case_refused_run input (status.BadCase f) told refused = (refused, refl)
-case_refused_run input status.NoMemory told refused = inl refl
-case_refused_run input status.ReadFault told refused = absurd refused
-case_refused_run input status.TooBig told refused = absurd refused
-case_refused_run input status.Ok told refused = absurd refused
-case_refused_run input (status.Differs p) told refused = absurd refused
-case_refused_run input status.Usage told refused = absurd refused
-case_refused_run input (status.Illegal i) told refused = absurd refused
-case_refused_run input status.Open told refused = absurd refused
-case_refused_run input status.Cut told refused = absurd refused
-case_refused_run input status.WriteFault told refused = absurd refused
+pub case_refused_lockstep : (input : List ℕ) (s : Status) (told : Option (List ℕ)) → IsCaseRefusal input s → AnswersLockstep s input told told
+case_refused_lockstep input (status.BadCase f) told refused = (refused, refl)
+case_refused_lockstep input status.NoMemory told refused = inl refl
+case_refused_lockstep input status.ReadFault told refused = absurd refused
+case_refused_lockstep input status.TooBig told refused = absurd refused
+case_refused_lockstep input status.Ok told refused = absurd refused
+case_refused_lockstep input (status.Differs p) told refused = absurd refused
+case_refused_lockstep input status.Usage told refused = absurd refused
+case_refused_lockstep input (status.Illegal i) told refused = absurd refused
+case_refused_lockstep input status.Open told refused = absurd refused
+case_refused_lockstep input status.Cut told refused = absurd refused
+case_refused_lockstep input status.WriteFault told refused = absurd refused
 
 pub case_refused_check : (input : List ℕ) (s : Status) → IsCaseRefusal input s → AnswersCheck s input
 case_refused_check input (status.BadCase f) refused = refused
@@ -102,18 +102,18 @@ refusal_of_case input status.WriteFault refused = refl
 
 -- ---- answers to a case
 
-pub case_run : (input : List ℕ) (c : Recording) (size : ℕ) (s : Status) (old now : Option (List ℕ)) → HasCase input c size → Writes c (written c) s old now → AnswersRun s input old now
-case_run input c size status.Ok old now has writes = record { case = c; size = size; has = has; is = writes.0; text = writes.1 }
-case_run input c size status.Cut old now has writes = record { case = c; size = size; has = has; is = writes.0; text = writes.1 }
-case_run input c size status.WriteFault old now has writes = record { case = c; size = size; has = has; front = writes }
-case_run input c size status.NoMemory old now has writes = inr (record { case = c; size = size; has = has; front = writes })
-case_run input c size status.ReadFault old now has writes = absurd writes
-case_run input c size status.TooBig old now has writes = absurd writes
-case_run input c size (status.Differs p) old now has writes = absurd writes
-case_run input c size status.Usage old now has writes = absurd writes
-case_run input c size (status.Illegal i) old now has writes = absurd writes
-case_run input c size status.Open old now has writes = absurd writes
-case_run input c size (status.BadCase f) old now has writes = absurd writes
+pub case_lockstep : (input : List ℕ) (c : Recording) (size : ℕ) (s : Status) (old now : Option (List ℕ)) → HasCase input c size → Writes c (written c) s old now → AnswersLockstep s input old now
+case_lockstep input c size status.Ok old now has writes = record { case = c; size = size; has = has; is = writes.0; text = writes.1 }
+case_lockstep input c size status.Cut old now has writes = record { case = c; size = size; has = has; is = writes.0; text = writes.1 }
+case_lockstep input c size status.WriteFault old now has writes = record { case = c; size = size; has = has; front = writes }
+case_lockstep input c size status.NoMemory old now has writes = inr (record { case = c; size = size; has = has; front = writes })
+case_lockstep input c size status.ReadFault old now has writes = absurd writes
+case_lockstep input c size status.TooBig old now has writes = absurd writes
+case_lockstep input c size (status.Differs p) old now has writes = absurd writes
+case_lockstep input c size status.Usage old now has writes = absurd writes
+case_lockstep input c size (status.Illegal i) old now has writes = absurd writes
+case_lockstep input c size status.Open old now has writes = absurd writes
+case_lockstep input c size (status.BadCase f) old now has writes = absurd writes
 
 pub writes_of_case : (c : Recording) (text : List ℕ) (s : Status) (old now : Option (List ℕ)) → Writes c text s old now → is_of_case s ≡ true
 writes_of_case c text status.Ok old now writes = refl

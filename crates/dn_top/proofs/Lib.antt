@@ -1,8 +1,11 @@
 pub mod Networks
 pub mod Answering
+pub mod Readings
 pub mod Completing
 pub mod Showing
 pub mod Places
 pub mod DrivesAnswering
 pub mod DrivesCompleting
+pub mod RunAnswering
+pub mod Running
 pub mod Promising

@@ -28,7 +28,7 @@ is_early _ = false
 -- these write nothing, and `check` never writes
 abbrev pub writes_nothing : Option Command → Status → Bool
 writes_nothing None s = is_early s
-writes_nothing (Some command.Run) s = is_early s
+writes_nothing (Some (command.Run options)) s = is_early s
 writes_nothing (Some command.Lockstep) s = is_early s
 writes_nothing (Some command.Check) s = true
 writes_nothing (Some command.Rerun) s = is_early s

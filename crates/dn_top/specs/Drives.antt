@@ -5,6 +5,7 @@ use Rattle.dn_model.specs.Cases.{Heading, Recording}
 use Rattle.dn_world.specs.declared.step.Step.{Step}
 use Rattle.dn_fabric.specs.Fabrics.{Fabric, IsNetworkOf}
 use Rattle.dn_fabric.specs.Driven.{ShowsRun}
+use Rattle.dn_workers.specs.Holds.{IsOver}
 use Rattle.dn_drive.specs.declared.ended.Ended.{Ended}
 use Rattle.dn_drive.specs.declared.ended.Ended.TheVariants as ended
 use Rattle.guest_any.specs.declared.any.AnyGuest.{AnyGuest}
@@ -26,6 +27,13 @@ pub record IsFabricOf (c : Recording) (f : Fabric AnyGuest) : Type 0 where
 -- the fabric shows the run of the case
 abbrev pub ShowsCase : Recording → Fabric AnyGuest → Type 0
 ShowsCase c f = ShowsRun (network_of c.header) c.feed f.live
+
+-- a fabric of the case after a run on threads: no call was refused, all of the case was accepted, and it is cut, or quiet with all committed
+pub record HasEnded (c : Recording) (f : Fabric AnyGuest) : Type 0 where
+  pub of : IsFabricOf c f
+  pub running : f.live.stopped ≡ false
+  pub accepted : f.live.world.accepted ≡ c.feed
+  pub over : IsOver f
 
 -- the run whose trace is written: the lockstep run, or what a fabric of the case shows
 abbrev pub IsShown : Recording → Shown → Type 0

@@ -3,10 +3,10 @@ use Rattle.std.specs.Prelude.{◌≡◌, ◌⊎◌, ℕ, ◌+◌, ◌≤◌, ◌
 use Rattle.dn_io.specs.Streams.{behind, PutsFront}
 use Rattle.dn_model.specs.Cases.{Heading, Recording}
 use Rattle.dn_model.specs.Network.{Network, routers}
-use Rattle.dn_model.specs.Settled.{IsPrefixOf, is_cut}
+use Rattle.dn_model.specs.Settled.{IsPrefixOf, is_cut, shown_rows}
 use Rattle.dn_world.specs.declared.step.Step.{Step}
 use Rattle.dn_world.specs.World.{horizon, is_quiet, opening}
-use Rattle.dn_world.specs.Runs.{IsLegalOf, injects, is_cut_off, world}
+use Rattle.dn_world.specs.Runs.{IsLegalOf, committed, injects, is_cut_off, world}
 use Rattle.dn_text.specs.Lines.{lines}
 use Rattle.dn_case.specs.declared.cause.Cause.TheVariants as cause
 use Rattle.dn_case.specs.declared.cause.CaseFault.{CaseFault}
@@ -28,6 +28,7 @@ use Rattle.dn_trace.specs.declared.stream.Ending.{Ending}
 use Rattle.dn_trace.specs.declared.stream.Ending.TheVariants as ending
 use Rattle.dn_top.specs.declared.status.Status.{Status}
 use Rattle.dn_top.specs.declared.status.Status.TheVariants as status
+use Rattle.dn_top.specs.declared.words.RunOptions.{RunOptions}
 use Rattle.dn_top.specs.declared.words.Schedule.{Schedule}
 use Rattle.dn_top.specs.declared.words.Command.{Command}
 use Rattle.dn_top.specs.declared.words.Command.TheVariants as command
@@ -51,7 +52,7 @@ is_cut_ending ending.Cut = true
 abbrev pub trace_of : Recording → List ℕ
 trace_of c = trace_text (network_of c.header) c.feed
 
--- what `run` and `lockstep` write: the recording, and then the trace
+-- the recording, and then the trace: all that `lockstep` and `rerun` write, and `run` without `--journal`
 unfoldable pub written : Recording → List ℕ
 written c = case_text c ++ trace_of c
 
@@ -207,7 +208,7 @@ pub record HasBegunAgain (input : List ℕ) (old now : Option (List ℕ)) : Type
 
 -- ---- schedules
 
--- what `shake` writes: the recording, the trace, and then the journal
+-- what `shake` writes, and `run` with `--journal`: the recording, the trace, and then the journal of the steps
 unfoldable pub shaken : Recording → List Step → List ℕ
 shaken c steps = written c ++ journal_text c.header steps
 
@@ -232,6 +233,48 @@ pub record HasBegunShaken (s : Schedule) (input : List ℕ) (old now : Option (L
   pub has : HasCase input case size
   pub is : has_trace (outcome_of case (steps_of case s)) ≡ true
   pub front : PutsFront old now (shaken case (steps_of case s))
+
+-- ---- runs on threads
+
+-- what the steps of a run come to that is cut, or whole
+abbrev pub end_of_run : (cut : Bool) → Ended
+end_of_run false = ended.Whole
+end_of_run true = ended.Cut
+
+-- and how they end
+abbrev pub EndsAs : (cut : Bool) → Recording → List Step → Type 0
+EndsAs false = EndsWhole
+EndsAs true = EndsCut
+
+-- the steps are a run of the case, which is cut or whole: `rerun` comes to that end by them, they end so, and just the rows that the trace shows are committed
+pub record IsCaseRun (c : Recording) (cut : Bool) (steps : List Step) : Type 0 where
+  pub is : is_cut_case c ≡ cut
+  pub comes : outcome_of c steps ≡ end_of_run cut
+  pub ends : EndsAs cut c steps
+  pub rows : committed (network_of c.header) (world (network_of c.header) steps) ≡ shown_rows (network_of c.header) c.feed
+
+-- what `run` writes: with `--journal` the journal of the steps that the threads took stands behind the trace
+abbrev pub run_text : (journal : Bool) → Recording → List Step → List ℕ
+run_text false c steps = written c
+run_text true c steps = shaken c steps
+
+-- threads took steps that are a run of the case at the front of the input, and the case was written with its trace, and with the journal of these steps if that is asked for
+pub record HasRunOut (o : RunOptions) (input : List ℕ) (cut : Bool) (old now : Option (List ℕ)) : Type 0 where
+  pub case : Recording
+  pub size : ℕ
+  pub steps : List Step
+  pub has : HasCase input case size
+  pub run : IsCaseRun case cut steps
+  pub text : now ≡ behind old (run_text o.journal case steps)
+
+-- the same, and a front of all that was written
+pub record HasBegunRun (o : RunOptions) (input : List ℕ) (old now : Option (List ℕ)) : Type 0 where
+  pub case : Recording
+  pub size : ℕ
+  pub steps : List Step
+  pub has : HasCase input case size
+  pub run : IsCaseRun case (is_cut_case case) steps
+  pub front : PutsFront old now (run_text o.journal case steps)
 
 -- ---- statuses
 
@@ -280,19 +323,33 @@ IsCaseRefusal input _ = ⊥
 
 -- ---- what each command answers of an input, and what was written then
 
--- of `run` and `lockstep`
-abbrev pub AnswersRun : Status → List ℕ → Option (List ℕ) → Option (List ℕ) → Type 0
-AnswersRun status.Ok input old now = HasWritten input false old now
-AnswersRun status.Cut input old now = HasWritten input true old now
-AnswersRun (status.BadCase fault) input old now = IsBadCase input fault × (now ≡ old)
-AnswersRun status.TooBig input old now = (input_limit < length input) × (now ≡ old)
-AnswersRun status.ReadFault input old now = now ≡ old
-AnswersRun status.WriteFault input old now = HasBegun input old now
-AnswersRun status.NoMemory input old now = (now ≡ old) ⊎ HasBegun input old now
-AnswersRun (status.Differs place) input old now = ⊥
-AnswersRun status.Usage input old now = ⊥
-AnswersRun (status.Illegal number) input old now = ⊥
-AnswersRun status.Open input old now = ⊥
+-- of `run`
+abbrev pub AnswersRun : RunOptions → Status → List ℕ → Option (List ℕ) → Option (List ℕ) → Type 0
+AnswersRun o status.Ok input old now = HasRunOut o input false old now
+AnswersRun o status.Cut input old now = HasRunOut o input true old now
+AnswersRun o (status.BadCase fault) input old now = IsBadCase input fault × (now ≡ old)
+AnswersRun o status.TooBig input old now = (input_limit < length input) × (now ≡ old)
+AnswersRun o status.ReadFault input old now = now ≡ old
+AnswersRun o status.WriteFault input old now = HasBegunRun o input old now
+AnswersRun o status.NoMemory input old now = (now ≡ old) ⊎ HasBegunRun o input old now
+AnswersRun o (status.Differs place) input old now = ⊥
+AnswersRun o status.Usage input old now = ⊥
+AnswersRun o (status.Illegal number) input old now = ⊥
+AnswersRun o status.Open input old now = ⊥
+
+-- of `lockstep`
+abbrev pub AnswersLockstep : Status → List ℕ → Option (List ℕ) → Option (List ℕ) → Type 0
+AnswersLockstep status.Ok input old now = HasWritten input false old now
+AnswersLockstep status.Cut input old now = HasWritten input true old now
+AnswersLockstep (status.BadCase fault) input old now = IsBadCase input fault × (now ≡ old)
+AnswersLockstep status.TooBig input old now = (input_limit < length input) × (now ≡ old)
+AnswersLockstep status.ReadFault input old now = now ≡ old
+AnswersLockstep status.WriteFault input old now = HasBegun input old now
+AnswersLockstep status.NoMemory input old now = (now ≡ old) ⊎ HasBegun input old now
+AnswersLockstep (status.Differs place) input old now = ⊥
+AnswersLockstep status.Usage input old now = ⊥
+AnswersLockstep (status.Illegal number) input old now = ⊥
+AnswersLockstep status.Open input old now = ⊥
 
 -- of `check`, which writes nothing
 abbrev pub AnswersCheck : Status → List ℕ → Type 0
@@ -338,8 +395,8 @@ AnswersShake s status.Usage input old now = ⊥
 
 -- of each command
 abbrev pub Answers : Command → Status → List ℕ → Option (List ℕ) → Option (List ℕ) → Type 0
-Answers command.Run status input old now = AnswersRun status input old now
-Answers command.Lockstep status input old now = AnswersRun status input old now
+Answers (command.Run options) status input old now = AnswersRun options status input old now
+Answers command.Lockstep status input old now = AnswersLockstep status input old now
 Answers command.Check status input old now = AnswersCheck status input × (now ≡ old)
 Answers command.Rerun status input old now = AnswersRerun status input old now
 Answers (command.Shake schedule) status input old now = AnswersShake schedule status input old now

@@ -1,18 +1,33 @@
 -- The words of a command.
-use Rattle.std.specs.Prelude.{List, [], ◌∷◌, ℕ, Option, Some, None, codes, if◌then◌else◌, nat_eq, nat_le, ◌&&◌}
+use Rattle.std.specs.Prelude.{List, [], ◌∷◌, ℕ, Bool, true, false, Option, Some, None, codes, if◌then◌else◌, nat_eq, nat_le, ◌&&◌}
 use Rattle.std.specs.Cmp.Lexicographic.{pointwise}
 use Rattle.dn_text.specs.Decimals.{decimal_of}
 use Rattle.dn_top.specs.declared.words.Command.{Command}
 use Rattle.dn_top.specs.declared.words.Command.TheVariants as command
 
--- the command of a word
-abbrev pub command_of_word : List ℕ → Option Command
-command_of_word word =
-    if pointwise nat_eq word (codes "run") then Some command.Run
-    else if pointwise nat_eq word (codes "lockstep") then Some command.Lockstep
-    else if pointwise nat_eq word (codes "check") then Some command.Check
-    else if pointwise nat_eq word (codes "rerun") then Some command.Rerun
+-- the word has these bytes
+abbrev pub is : List ℕ → List ℕ → Bool
+is word bytes = pointwise nat_eq word bytes
+
+-- ---- `run [--workers N] [--journal]`
+
+-- `run` with 1 to 16 workers
+abbrev pub run_by : Option ℕ → Bool → Option Command
+run_by (Some workers) journal = if nat_le 1 workers && nat_le workers 16 then Some (command.Run (record { workers = workers; journal = journal })) else None
+run_by None journal = None
+
+-- the options are `--workers N`, where N is a decimal, and `--journal`: in any order, each at most once; by default 4 workers and no journal
+abbrev pub run_of : List (List ℕ) → Option Command
+run_of [] = run_by (Some 4) false
+run_of (a ∷ []) = if is a (codes "--journal") then run_by (Some 4) true else None
+run_of (a ∷ b ∷ []) = if is a (codes "--workers") then run_by (decimal_of b) false else None
+run_of (a ∷ b ∷ c ∷ []) =
+    if is a (codes "--workers") && is c (codes "--journal") then run_by (decimal_of b) true
+    else if is a (codes "--journal") && is b (codes "--workers") then run_by (decimal_of c) true
     else None
+run_of (a ∷ b ∷ c ∷ d ∷ more) = None
+
+-- ---- `shake NUMBER --steps M`
 
 -- `shake` by this number, of 1 to 1,000,000 steps
 abbrev pub scheduled : Option ℕ → Option ℕ → Option Command
@@ -20,27 +35,37 @@ scheduled (Some number) (Some steps) = if nat_le 1 steps && nat_le steps 1000000
 scheduled (Some number) None = None
 scheduled None steps = None
 
--- `shake NUMBER --steps M`, whose numbers are decimals below 2^64
-abbrev pub shake_of : List ℕ → List ℕ → List ℕ → List ℕ → Option Command
-shake_of word number option steps =
-    if pointwise nat_eq word (codes "shake") && pointwise nat_eq option (codes "--steps")
-    then scheduled (decimal_of number) (decimal_of steps)
-    else None
+-- both numbers are decimals below 2^64
+abbrev pub shake_of : List (List ℕ) → Option Command
+shake_of [] = None
+shake_of (number ∷ []) = None
+shake_of (number ∷ option ∷ []) = None
+shake_of (number ∷ option ∷ steps ∷ []) = if is option (codes "--steps") then scheduled (decimal_of number) (decimal_of steps) else None
+shake_of (number ∷ option ∷ steps ∷ other ∷ more) = None
 
--- a command is one word; but `shake`, which is four
+-- ---- all commands
+
+-- the commands of one word
+abbrev pub plain_command : List ℕ → List (List ℕ) → Option Command
+plain_command word [] =
+    if is word (codes "lockstep") then Some command.Lockstep
+    else if is word (codes "check") then Some command.Check
+    else if is word (codes "rerun") then Some command.Rerun
+    else None
+plain_command word (other ∷ more) = None
+
 unfoldable pub command_of : List (List ℕ) → Option Command
 command_of [] = None
-command_of (word ∷ []) = command_of_word word
-command_of (word ∷ number ∷ []) = None
-command_of (word ∷ number ∷ option ∷ []) = None
-command_of (word ∷ number ∷ option ∷ steps ∷ []) = shake_of word number option steps
-command_of (word ∷ number ∷ option ∷ steps ∷ other ∷ more) = None
+command_of (word ∷ more) =
+    if is word (codes "run") then run_of more
+    else if is word (codes "shake") then shake_of more
+    else plain_command word more
 
 -- the commands that wait for nobody: all but `run`
 abbrev pub plain_of : Option Command → Option Command
+plain_of (Some (command.Run options)) = None
 plain_of (Some command.Lockstep) = Some command.Lockstep
 plain_of (Some command.Check) = Some command.Check
 plain_of (Some command.Rerun) = Some command.Rerun
 plain_of (Some (command.Shake schedule)) = Some (command.Shake schedule)
-plain_of (Some command.Run) = None
 plain_of None = None

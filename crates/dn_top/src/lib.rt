@@ -1,7 +1,7 @@
 //! The commands: what each reads, writes and answers.
 //!
-//! A command is given a source and a sink. `defined_top` is the whole program but for the real source and
-//! sink, so its contract is the program's promise.
+//! A command is given a source and a sink, and `run` also a handle that starts threads. `defined_top` is the whole
+//! program but for the real source, sink and handle, so its contract is the program's promise.
 //!
 //! | File | What it has |
 //! |---|---|
@@ -9,12 +9,13 @@
 //! | `status.rt` | how a command ended: the exit status and the line on standard error |
 //! | `input.rt` | reading the input and the case at its front |
 //! | `top.rt` | the top calls, and the one way through all commands |
-//! | `written.rt` | `run` and `lockstep`; writing a case and the trace of its run, for all commands that do |
+//! | `written.rt` | `lockstep`; writing a case and the trace of its run, for all commands that do |
 //! | `checking.rt` | `check` |
-//! | `shown.rt` | the fabric of a case, and writing the trace that it shows, whoever drove it |
+//! | `shown.rt` | the fabric of a case, and writing the trace that it shows and its journal, whoever drove it |
 //! | `rerun.rt` | `rerun` |
 //! | `ends.rt` | what the steps are that come to an end |
 //! | `shake.rt` | `shake` |
+//! | `threads.rt` | `run` |
 //!
 //! The one contract upwards: the record `Promise` of `specs/Commands.antt`, what a command says of its
 //! source, its sink and its status. It stands on the table `Answers` of `specs/Promises.antt`: for each
@@ -27,8 +28,10 @@
 //! words     command_of          None: Usage
 //! source    read_given          a refusal keeps the promise of every command
 //!             |  Given: the input, the case at its front, how many bytes that has
-//!           answer              one arm for each command
-//!             |-- run_case      run, lockstep    (case)
+//!             |
+//!             |-- run_case      run              (options, case; a handle that starts threads, a gate)
+//!           answer              the others: one arm for each, and none waits
+//!             |-- lockstep_case lockstep         (case)
 //!             |-- check_case    check            (input, case, size)
 //!             |-- rerun_case    rerun            (input, case, size)
 //!             |-- shake_case    shake            (schedule, case)
@@ -49,10 +52,12 @@ mod rerun;
 mod shake;
 mod shown;
 mod status;
+mod threads;
 mod top;
 mod words;
 mod written;
 
 pub use status::{Status, status_line, status_number};
 pub use top::{defined_plain, defined_top};
-pub use words::{Command, Schedule, command_of};
+pub use words::{Command, RunOptions, Schedule, command_of};
+pub use dn_workers::{Gate, OpenGate};

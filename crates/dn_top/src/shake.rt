@@ -1,26 +1,21 @@
 //! `shake`: the steps of a schedule are taken one by one.
 
-ghost use Rattle.std.specs.Prelude.{◌≡◌, ◌≤◌, ◌++◌, false, IfOk, OnOk};
+ghost use Rattle.std.specs.Prelude.{◌≡◌, ◌≤◌, false, IfOk};
 ghost use Rattle.dn_io.specs.Streams.{Rose};
 ghost use Rattle.dn_model.specs.Cases.{IsRecording};
-ghost use Rattle.guest_any.specs.Any.{any};
-ghost use Rattle.dn_fabric.specs.Fabrics.{IsNetworkOf};
 ghost use Rattle.dn_fabric.specs.Driven.{IsOpening};
 ghost use Rattle.dn_drive.specs.Endings.{IsLegalEnd, StandsAt};
-ghost use Rattle.dn_journal.specs.Spelling.{journal_text};
 ghost use Rattle.dn_top.specs.Promises.{network_of, outcome_of, steps_of, shaken};
-ghost use Rattle.dn_top.specs.Drives.{IsFabricOf, ShowsCase, Writes, Drives, is_illegal};
+ghost use Rattle.dn_top.specs.Drives.{IsFabricOf, Drives, is_illegal};
 
-use crate::shown::fabric_of;
+use crate::shown::{fabric_of, write_with_journal};
 use crate::status::Status;
 use crate::words::Schedule;
-use crate::written::{Shown, write_run};
 use dn_drive::{Ended, shake};
 use dn_fabric::Fabric;
-use dn_guest::{Bytes, NoMemory};
+use dn_guest::NoMemory;
 use dn_io::Sink;
-use dn_journal::write_journal;
-use dn_model::{Case, External, Header};
+use dn_model::{Case, External};
 use guest_any::AnyGuest;
 use std::alloc::Global;
 
@@ -87,41 +82,8 @@ fn write_shake<K: Sink>(
     ensures later { K.faults sink.old ≤ K.faults sink.new }
 {
     match ended {
-        Ended::Whole | Ended::Cut => write_shaken(alloc, case, &case.header, fabric, sink),
+        Ended::Whole | Ended::Cut => write_with_journal(alloc, case, &case.header, fabric, sink),
         Ended::Illegal(_) => unreachable!(),
         Ended::Open => Status::Open,
     }
-}
-
-/// Writes the recording, the trace and the journal.
-fn write_shaken<K: Sink>(
-    alloc: Global,
-    case: &Case,
-    header: &Header,
-    fabric: &Fabric<AnyGuest>,
-    sink: &mut K,
-) -> Status
-    requires of { IsFabricOf case.now fabric.now }
-    requires same { case.now.header ≡ header.now }
-    requires shows { ShowsCase case.now fabric.now }
-    ensures answers { Writes case.now (shaken case.now fabric.now.journal) result (K.holds sink.old)
-        (K.holds sink.new) }
-    ensures fault { result ≡ Status.WriteFault → Rose (K.faults sink.old) (K.faults sink.new) }
-    ensures later { K.faults sink.old ≤ K.faults sink.new }
-{
-    let mut journal = Bytes::new(alloc);
-    match push_journal(header, fabric, &mut journal) {
-        Ok(()) => write_run(alloc, case, Shown::Driven(fabric), &journal, sink),
-        Err(_) => Status::NoMemory,
-    }
-}
-
-/// Appends the journal.
-fn push_journal(header: &Header, fabric: &Fabric<AnyGuest>, out: &mut Bytes) -> Result<(), NoMemory>
-    requires { IsNetworkOf (network_of header.now) any fabric.now.live.header fabric.now.live.openings }
-    ensures { OnOk result (out.new ≡ out.old ++ journal_text header.now fabric.now.journal) }
-{
-    let _groups = header.groups;
-    dn_journal::laws::legal_steps_may_stand_in_a_journal::<AnyGuest>();
-    write_journal(header, fabric.journal(), out)
 }

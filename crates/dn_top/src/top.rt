@@ -1,6 +1,6 @@
 //! The top calls: all that the program does.
 
-ghost use Rattle.std.specs.Prelude.{Some, length, map, ◌≤◌};
+ghost use Rattle.std.specs.Prelude.{◌≡◌, ◌≤◌, Some, length, map};
 ghost use Rattle.std.specs.String.{string_bytes};
 ghost use Rattle.dn_top.specs.Words.{command_of, plain_of};
 ghost use Rattle.dn_top.specs.Promises.{HasCase};
@@ -12,31 +12,39 @@ use crate::input::{Given, read_given};
 use crate::rerun::rerun_case;
 use crate::shake::shake_case;
 use crate::status::Status;
-use crate::words::{Command, command_of, plain_of};
-use crate::written::run_case;
+use crate::threads::run_case;
+use crate::words::{Command, RunOptions, command_of, plain_of, run_options};
+use crate::written::lockstep_case;
 use dn_io::{Sink, Source};
+use dn_workers::Gate;
 use std::alloc::Global;
+use std::sync::Wait;
+use std::thread::Threads;
 
 /// Does what the words ask: reads the source, writes the sink, and answers how it ended.
 ///
 /// The promise is the record `Promise` of `specs/Commands.antt`. Its field `answers` is the table
 /// `Answers` of `specs/Promises.antt`: for each command and each status, what the input was and what was
 /// written. The recording is the one spelling of the case at the front of the input; the trace is that
-/// of the lockstep run of the model. A fault comes only where a count of faults rose in this call. The
-/// call always returns.
-pub fn defined_top<S: Source, K: Sink>(
+/// of the lockstep run of the model. A fault comes only where a count of faults rose in this call.
+///
+/// `run` starts threads and waits for them, and may never return. Each of its workers enters the gate before it
+/// computes an order. All other commands are those of `defined_plain`.
+pub fn defined_top<S: Source, K: Sink, Y: Gate + Sync, R: Threads + Wait + Sync>(
+    rt: &R,
     alloc: Global,
     words: &[String],
     source: &mut S,
     sink: &mut K,
+    gate: &Y,
 ) -> Status
     ensures { Promise (command_of (map string_bytes words.now)) result
         (streams (S.left source.old) (S.faults source.old) (K.holds sink.old) (K.faults sink.old))
         (streams (S.left source.new) (S.faults source.new) (K.holds sink.new) (K.faults sink.new)) }
 {
-    match command_of(words) {
-        Some(command) => obey(alloc, command, source, sink),
-        None => Status::Usage,
+    match run_options(command_of(words)) {
+        Some(options) => run(rt, alloc, options, source, sink, gate),
+        None => defined_plain(alloc, words, source, sink),
     }
 }
 
@@ -58,9 +66,31 @@ pub fn defined_plain<S: Source, K: Sink>(
     }
 }
 
-/// Does what the command asks: reads the input and the case at its front, and lets the command go on
-/// from there.
+/// Reads the input and the case at its front, and runs that on threads.
+fn run<S: Source, K: Sink, Y: Gate + Sync, R: Threads + Wait + Sync>(
+    rt: &R,
+    alloc: Global,
+    options: RunOptions,
+    source: &mut S,
+    sink: &mut K,
+    gate: &Y,
+) -> Status
+    requires some { 1 ≤ options.workers }
+    requires few { options.workers ≤ 16 }
+    ensures { Promise (Some (Command.Run options)) result (streams (S.left source.old) (S.faults source.old)
+        (K.holds sink.old) (K.faults sink.old)) (streams (S.left source.new) (S.faults source.new) (K.holds sink.new)
+        (K.faults sink.new)) }
+{
+    match read_given(alloc, source) {
+        Ok(given) => run_case(rt, alloc, options, &given, sink, gate),
+        Err(status) => status,
+    }
+}
+
+/// Does what a command asks that waits for nobody: reads the input and the case at its front, and lets the
+/// command go on from there.
 fn obey<S: Source, K: Sink>(alloc: Global, command: Command, source: &mut S, sink: &mut K) -> Status
+    requires plain { plain_of (Some command) ≡ Some command }
     ensures { Promise (Some command) result (streams (S.left source.old) (S.faults source.old) (K.holds sink.old)
         (K.faults sink.old)) (streams (S.left source.new) (S.faults source.new) (K.holds sink.new)
         (K.faults sink.new)) }
@@ -73,6 +103,7 @@ fn obey<S: Source, K: Sink>(alloc: Global, command: Command, source: &mut S, sin
 
 /// Hands the case, and what else of the input it needs, to the command's driver.
 fn answer<K: Sink>(alloc: Global, command: Command, given: &Given, sink: &mut K) -> Status
+    requires plain { plain_of (Some command) ≡ Some command }
     requires has { HasCase given.now.input.items given.now.case given.now.size }
     requires within { given.now.size ≤ length given.now.input.items }
     ensures { Fulfils command given.now.input.items result (K.holds sink.old) (K.holds sink.new) (K.faults sink.old)
@@ -82,8 +113,8 @@ fn answer<K: Sink>(alloc: Global, command: Command, given: &Given, sink: &mut K)
     let input = given.input.as_slice();
     let case = &given.case;
     match command {
-        Command::Run => run_case(alloc, case, sink),
-        Command::Lockstep => run_case(alloc, case, sink),
+        Command::Run(_) => unreachable!(),
+        Command::Lockstep => lockstep_case(alloc, case, sink),
         Command::Check => check_case(alloc, input, case, given.size),
         Command::Rerun => rerun_case(alloc, input, case, given.size, sink),
         Command::Shake(schedule) => shake_case(alloc, schedule, case, sink),

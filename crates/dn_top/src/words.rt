@@ -1,10 +1,17 @@
 //! The words of a command.
 
-ghost use Rattle.std.specs.Prelude.{◌≡◌, map};
+ghost use Rattle.std.specs.Prelude.{◌≡◌, ◌≤◌, Some, None, map};
 ghost use Rattle.std.specs.String.{string_bytes};
-ghost use Rattle.dn_top.specs.Words.{command_of_word, command_of, shake_of, scheduled, plain_of};
+ghost use Rattle.dn_top.specs.declared.words.RunOptions.{RunOptions};
+ghost use Rattle.dn_top.specs.Words.{plain_command, command_of, run_by, run_of, shake_of, scheduled, plain_of};
 
 use dn_text::decimal;
+
+/// How many workers a run has where the words name no number.
+const USUAL_WORKERS: u64 = 4;
+
+/// The most workers of a run.
+const MOST_WORKERS: u64 = 16;
 
 /// The most steps of a schedule.
 const MOST_STEPS: u64 = 1_000_000;
@@ -12,8 +19,8 @@ const MOST_STEPS: u64 = 1_000_000;
 /// A command of the program.
 #[derive(Clone, Copy, Debug, PartialEq, Eq)]
 pub enum Command {
-    /// Runs a case, and writes its recording and its trace.
-    Run,
+    /// Runs a case on threads, and writes its recording and its trace, and perhaps the journal.
+    Run(RunOptions),
     /// Runs a case in lockstep on one thread, and writes its recording and its trace.
     Lockstep,
     /// Says whether the trace behind a case is the case's.
@@ -22,6 +29,14 @@ pub enum Command {
     Rerun,
     /// Takes the steps of a schedule, and writes the recording, the trace and the journal.
     Shake(Schedule),
+}
+
+/// How `run` runs a case: with how many workers, from 1 to 16, each on a thread of its own, and whether it writes
+/// the journal of the steps that the threads took.
+#[derive(Clone, Copy, Debug, PartialEq, Eq)]
+pub struct RunOptions {
+    pub workers: u16,
+    pub journal: bool,
 }
 
 /// A schedule: the number from which each step is drawn, and how many steps it has at most.
@@ -34,17 +49,21 @@ pub struct Schedule {
 /// The command that the words name; None where they name none.
 #[tactic(auto, unfolding(crate::specs::Words::command_of))]
 pub fn command_of(words: &[String]) -> Option<Command>
-    ensures { result ≡ command_of (map string_bytes words.now) }
+    ensures is { result ≡ command_of (map string_bytes words.now) }
+    ensures some { (o : RunOptions) → result ≡ Some (Command.Run o) → 1 ≤ o.workers }
+    ensures few { (o : RunOptions) → result ≡ Some (Command.Run o) → o.workers ≤ 16 }
 {
     match words {
-        [word] => command_of_word(word.as_str()),
-        [word, number, option, steps] => shake_of(
-            word.as_str(),
-            number.as_str(),
-            option.as_str(),
-            steps.as_str(),
-        ),
-        _ => None,
+        [] => None,
+        [word, more @ ..] => {
+            if word.as_str() == "run" {
+                run_of(more)
+            } else if word.as_str() == "shake" {
+                shake_of(more)
+            } else {
+                plain_command(word.as_str(), more)
+            }
+        }
     }
 }
 
@@ -53,16 +72,28 @@ pub(crate) fn plain_of(command: Option<Command>) -> Option<Command>
     ensures { result ≡ plain_of command }
 {
     match command {
-        Some(Command::Run) => None,
+        Some(Command::Run(_)) => None,
         other => other,
     }
 }
 
-fn command_of_word(word: &str) -> Option<Command>
-    ensures { result ≡ command_of_word word.now }
+/// How `run` is to run its case, if that is the command; all others are plain.
+pub(crate) fn run_options(command: Option<Command>) -> Option<RunOptions>
+    ensures run { (o : RunOptions) → result ≡ Some o → command ≡ Some (Command.Run o) }
+    ensures other { result ≡ None → plain_of command ≡ command }
 {
-    if word == "run" {
-        Some(Command::Run)
+    match command {
+        Some(Command::Run(options)) => Some(options),
+        _ => None,
+    }
+}
+
+/// The commands of one word that have no options.
+fn plain_command(word: &str, more: &[String]) -> Option<Command>
+    ensures { result ≡ plain_command word.now (map string_bytes more.now) }
+{
+    if !more.is_empty() {
+        None
     } else if word == "lockstep" {
         Some(Command::Lockstep)
     } else if word == "check" {
@@ -74,14 +105,59 @@ fn command_of_word(word: &str) -> Option<Command>
     }
 }
 
-/// The command of the words `shake NUMBER --steps M`.
-fn shake_of(word: &str, number: &str, option: &str, steps: &str) -> Option<Command>
-    ensures { result ≡ shake_of word.now number.now option.now steps.now }
+/// `run` with the options behind it.
+fn run_of(options: &[String]) -> Option<Command>
+    ensures { result ≡ run_of (map string_bytes options.now) }
 {
-    if word == "shake" && option == "--steps" {
-        scheduled(decimal(number.as_bytes()), decimal(steps.as_bytes()))
-    } else {
-        None
+    match options {
+        [] => run_by(Some(USUAL_WORKERS), false),
+        [journal] if journal.as_str() == "--journal" => run_by(Some(USUAL_WORKERS), true),
+        [workers, number] if workers.as_str() == "--workers" => {
+            run_by(decimal(number.as_str().as_bytes()), false)
+        }
+        [workers, number, journal] if workers.as_str() == "--workers" && journal.as_str() == "--journal" => {
+            run_by(decimal(number.as_str().as_bytes()), true)
+        }
+        [journal, workers, number] if journal.as_str() == "--journal" && workers.as_str() == "--workers" => {
+            run_by(decimal(number.as_str().as_bytes()), true)
+        }
+        _ => None,
+    }
+}
+
+/// `run` with 1 to 16 workers.
+fn run_by(workers: Option<u64>, journal: bool) -> Option<Command>
+    ensures { result ≡ run_by workers journal }
+{
+    match workers {
+        Some(workers) => {
+            if 1 <= workers && workers <= MOST_WORKERS {
+                let workers = workers as u16;
+                Some(Command::Run(RunOptions { workers, journal }))
+            } else {
+                None
+            }
+        }
+        None => None,
+    }
+}
+
+/// The command of the words `shake NUMBER --steps M`.
+fn shake_of(more: &[String]) -> Option<Command>
+    ensures { result ≡ shake_of (map string_bytes more.now) }
+{
+    match more {
+        [number, option, steps] => {
+            if option.as_str() == "--steps" {
+                scheduled(
+                    decimal(number.as_str().as_bytes()),
+                    decimal(steps.as_str().as_bytes()),
+                )
+            } else {
+                None
+            }
+        }
+        _ => None,
     }
 }
 

@@ -1,30 +1,20 @@
 use Rattle.std.proofs.Common.{List, ℕ, refl, sym, subst}
 use Rattle.dn_top.specs.declared.words.Command.TheVariants as command
 use Rattle.dn_top.specs.Promises.{HasCase, steps_of}
-use Rattle.dn_top.proofs.Answering.{case_run, writes_of_case, case_check, comparing_of_case}
+use Rattle.dn_top.proofs.Answering.{case_lockstep, writes_of_case, case_check, comparing_of_case}
 use Rattle.dn_top.proofs.DrivesAnswering.{case_shake, drives_of_case}
 use Rattle.dn_top.specs.Commands.{Fulfils}
 use Rattle.dn_top.proofs.Promising.{same_task, never_of_comparing}
 use Rattle.dn_top.proofs.top.answer.Goals as goal
 
-pub returns-in-Run : goal.returns-in-Run
-returns-in-Run g c =
-    same_task c.args.command command.Run _ _ _ _ _ _ c.in-Run.is
-    (record {
-      answers = case_run _ _ _ c.run_case.result _ _ c.requires.has c.run_case.ensures.answers;
-      only = writes_of_case _ _ c.run_case.result _ _ c.run_case.ensures.answers;
-      one = λ is. cc;
-      write_fault = c.run_case.ensures.fault;
-    })
-
 pub returns-in-Lockstep : goal.returns-in-Lockstep
 returns-in-Lockstep g c =
     same_task c.args.command command.Lockstep _ _ _ _ _ _ c.in-Lockstep.is
     (record {
-      answers = case_run _ _ _ c.run_case-in-Lockstep.result _ _ c.requires.has c.run_case-in-Lockstep.ensures.answers;
-      only = writes_of_case _ _ c.run_case-in-Lockstep.result _ _ c.run_case-in-Lockstep.ensures.answers;
+      answers = case_lockstep _ _ _ c.lockstep_case.result _ _ c.requires.has c.lockstep_case.ensures.answers;
+      only = writes_of_case _ _ c.lockstep_case.result _ _ c.lockstep_case.ensures.answers;
       one = λ is. cc;
-      write_fault = c.run_case-in-Lockstep.ensures.fault;
+      write_fault = c.lockstep_case.ensures.fault;
     })
 
 pub returns-in-Check : goal.returns-in-Check

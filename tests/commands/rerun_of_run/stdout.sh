@@ -1,0 +1,1 @@
+cat "examples/$1.out"
