@@ -2,13 +2,14 @@
 use Rattle.std.proofs.Common.{◌≡◌, Bool, true, false, not, ◌&&◌, List, [], ◌++◌, refl, sym, ap, ◌∙◌, subst, append-nil}
 use Rattle.std.specs.Prelude.{if◌then◌else◌}
 use Rattle.std.proofs.lemmas.Bool.{and_parts}
-use Rattle.std.specs.Ordering.{is_lt}
+use Rattle.std.specs.Ordering.{is_lt, is_gt, ordering_reverse}
+use Rattle.std.specs.declared.cmp.Ordering.{Ordering}
+use Rattle.std.specs.declared.cmp.Ordering.TheVariants.{Less, Equal, Greater}
 use Rattle.dn_model.specs.declared.feed.External.{External}
 use Rattle.dn_model.specs.Cases.{Heading}
 use Rattle.dn_model.specs.Order.{key_cmp, key_total}
 use Rattle.dn_model.specs.Network.{Network}
 use Rattle.dn_model.specs.Settled.{is_cut, lockstep, shown_rows}
-use Rattle.dn_lists.proofs.Sorting.{turn}
 use Rattle.dn_world.specs.World.{World, horizon, is_empty, is_quiet, are_quiet}
 use Rattle.dn_world.specs.Runs.{Continues, IsLegal, world, committed, is_cut_off}
 use Rattle.dn_fabric.specs.Fabrics.{Fabric}
@@ -27,10 +28,15 @@ pub closed_if_quiet : (w : World) → is_quiet w ≡ true → w.closed ≡ true
 unfolding is_quiet
 closed_if_quiet w q = (and_parts w.closed (is_empty w.flight) (and_parts (w.closed && is_empty w.flight) (are_quiet w.parts) q).0).0
 
+turned : (o : Ordering) → is_lt (ordering_reverse o) ≡ is_gt o
+turned Less = refl
+turned Equal = refl
+turned Greater = refl
+
 -- where no Commit is left to take, the horizon isn't past the boundary
 pub no_more_above : (h : Heading) (w : World) → can_commit h w ≡ false → is_lt (key_cmp w.boundary (horizon h w)) ≡ false
 unfolding can_commit
-no_more_above h w k = sym (turn key_cmp key_total w.boundary (horizon h w)) ∙ k
+no_more_above h w k = ap is_lt (key_total.antisymm w.boundary (horizon h w)) ∙ turned (key_cmp (horizon h w) w.boundary) ∙ k
 
 module _ {S : Type 0} (net : Network S) (feed : List External) where
   fed_is : (f : Fabric S) (xs : List External) → IsOn net feed f xs → f.live.stopped ≡ false → IsFed net feed xs f

@@ -1,21 +1,19 @@
 -- Steps that a case asks for, and what they leave of its feed.
-use Rattle.std.proofs.Common.{◌≡◌, ℕ, suc, ◌<◌, ◌≤◌, true, false, ◌&&◌, List, [], ◌∷◌, ◌++◌, drop, refl, sym, ap, ◌∙◌, subst, arith, append_assoc}
+use Rattle.std.proofs.Common.{◌≡◌, ℕ, zero, suc, ◌<◌, ◌≤◌, true, false, ◌&&◌, List, [], ◌∷◌, ◌++◌, drop, refl, sym, ap, ◌∙◌, subst, arith, append_assoc}
 use Rattle.std.specs.Prelude.{◌==◌, Option, Some, None, slice_get}
 use Rattle.std.specs.List.{AllByRecursion}
-use Rattle.std.specs.Ordering.{is_eq, nat_cmp, ordering_then}
+use Rattle.std.specs.Ordering.{is_eq}
+use Rattle.std.specs.FinMap.{slice_cmp-IsAntisymmetric, nat_cmp-IsAntisymmetric}
 use Rattle.std.specs.declared.cmp.Ordering.{Ordering}
 use Rattle.std.specs.declared.cmp.Ordering.TheVariants.{Less, Equal, Greater}
 use Rattle.std.proofs.lemmas.Bool.{and_parts, ltb-true, eqb-true}
 use Rattle.dn_guest.specs.declared.input.Input.{Input}
-use Rattle.dn_guest.specs.InputOrder.{input_cmp}
-use Rattle.dn_model.specs.declared.key.Key.{Key}
+use Rattle.dn_guest.specs.declared.input.Input.TheVariants.{Tick, Cmd, Down, Up, Msg}
+use Rattle.dn_guest.specs.InputOrder.{input_cmp, input_numbers}
 use Rattle.dn_model.specs.declared.event.Event.{Event}
 use Rattle.dn_model.specs.declared.feed.External.{External}
 use Rattle.dn_model.specs.Cases.{Heading, AreExternals}
-use Rattle.dn_model.specs.Order.{key_cmp, event_cmp}
 use Rattle.dn_model.specs.Network.{Network, routers}
-use Rattle.dn_lists.proofs.Lists.{all_weaker}
-use Rattle.dn_model.proofs.EventOrder.{event_same, event_cmp_is}
 use Rattle.dn_world.specs.declared.packet.Packet.{Packet}
 use Rattle.dn_world.specs.declared.step.Step.{Step}
 use Rattle.dn_world.specs.declared.step.Step.TheVariants.{Beacon, Inject, Close, Deliver, Handle, RollBack, Commit}
@@ -28,22 +26,34 @@ use Rattle.dn_drive.proofs.May.{may}
 
 -- ---- what the case asks
 
-abbrev zeros : Key
-zeros = record { group = 0; sum = 0; class = 0; tie = 0; origin = 0; seq = 0 }
+-- an input from its numbers
+input_from : List ℕ → Input
+input_from (zero ∷ group ∷ more) = Tick group
+input_from (suc zero ∷ body) = Cmd body
+input_from (suc (suc zero) ∷ port ∷ more) = Down port
+input_from (suc (suc (suc zero)) ∷ port ∷ more) = Up port
+input_from (suc (suc (suc (suc n))) ∷ port ∷ body) = Msg port body
+input_from _ = Tick 0
 
-abbrev at_input : Input → Event
-at_input i = record { key = zeros; router = 0; input = i }
+input_from_its : (i : Input) → input_from (input_numbers i) ≡ i
+unfolding input_from
+input_from_its (Tick group) = refl
+input_from_its (Cmd body) = refl
+input_from_its (Down port) = refl
+input_from_its (Up port) = refl
+input_from_its (Msg port body) = refl
 
 is_equal : (o : Ordering) → is_eq o ≡ true → o ≡ Equal
 is_equal Less h = absurd (cc)
 is_equal Equal h = refl
 is_equal Greater h = absurd (cc)
 
+-- the order of inputs tells them apart
 input_same : (x y : Input) → input_cmp x y ≡ Equal → x ≡ y
-unfolding key_cmp
+unfolding input_cmp
 input_same x y h =
-    let events : event_cmp (at_input x) (at_input y) ≡ Equal = event_cmp_is (at_input x) (at_input y) ∙ ap (λ o. ordering_then (ordering_then (key_cmp zeros zeros) (nat_cmp 0 0)) o) h in
-    ap (λ (e : Event). e.input) (event_same (at_input x) (at_input y) events)
+    let e : input_numbers x ≡ input_numbers y = slice_cmp-IsAntisymmetric nat_cmp-IsAntisymmetric (input_numbers x) (input_numbers y) h in
+    sym (input_from_its x) ∙ ap input_from e ∙ input_from_its y
 
 pub same_external : (x y : External) → is_same_external x y ≡ true → x ≡ y
 same_external x y h =
@@ -113,11 +123,15 @@ later_rules h floor [] a s = tt
 later_rules h floor (x ∷ xs) a s = (record { rises = s; group = a.0.group; router = a.0.router; asked = a.0.asked }, a.1)
 
 -- no external of the rest is of a group before the first's
-pub not_past : (h : Heading) (low : ℕ) (xs : List External) → AreExternals h low xs → AllByRecursion (λ x. low ≤ x.group) xs
-not_past h low [] a = tt
-not_past h low (x ∷ xs) a =
+groups_from : (h : Heading) (low first : ℕ) (xs : List External) → low ≤ first → AreExternals h first xs → AllByRecursion (λ x. low ≤ x.group) xs
+groups_from h low first [] le a = tt
+groups_from h low first (x ∷ xs) le a =
     let rises = a.0.rises in
-    (rises, all_weaker (λ y. x.group ≤ y.group) (λ y. low ≤ y.group) xs (λ y g. omega (arith, rises, g)) (not_past h x.group xs a.1))
+    let here : low ≤ x.group = omega (arith, le, rises) in
+    (here, groups_from h low x.group xs here a.1)
+
+pub not_past : (h : Heading) (low : ℕ) (xs : List External) → AreExternals h low xs → AllByRecursion (λ x. low ≤ x.group) xs
+not_past h low xs a = groups_from h low low xs (omega arith) a
 
 module _ {S : Type 0} (net : Network S) where
   pub handle_same : (w : World) (r : ℕ) (p : Part) (es : List Event) → IsSame w (handle net w r p es)

@@ -1,14 +1,13 @@
 -- What a turn chooses is allowed, and what the schedule is after it.
-use Rattle.std.proofs.Common.{◌≡◌, ℕ, zero, suc, ◌+◌, ◌%◌, ◌<◌, ◌≤◌, Bool, true, false, not, ◌&&◌, nat_lt, List, [], ◌∷◌, ◌++◌, length, map, get_or, refl, sym, ap, ◌∙◌, subst, arith, append_assoc, append-nil}
+use Rattle.std.proofs.Common.{◌≡◌, ℕ, zero, suc, ◌+◌, ◌%◌, ◌<◌, ◌≤◌, Bool, true, false, not, ◌&&◌, nat_lt, List, [], ◌∷◌, ◌++◌, length, map, get_or, refl, sym, ap, ◌∙◌, subst, arith, append_assoc, append-nil, ⊎_elim}
 use Rattle.std.specs.Prelude.{◌==◌, Some, slice_get, if◌then◌else◌}
 use Rattle.std.specs.Option.{option_map_or}
 use Rattle.std.specs.List.{AllByRecursion}
 use Rattle.std.specs.Ordering.{is_eq}
-use Rattle.std.proofs.lemmas.Bool.{lt-ltb, ltb-true, ltb-false, eq-eqb, eqb-false}
+use Rattle.std.proofs.lemmas.Bool.{cases_Bool, lt-ltb, ltb-true, ltb-false, eq-eqb, eqb-false}
 use Rattle.std.proofs.lemmas.Cmp.{tied_itself}
 use Rattle.dn_guest.specs.Meaning.{Meaning}
 use Rattle.dn_guest.specs.InputOrder.{input_cmp, input_total}
-use Rattle.dn_lists.proofs.Lists.{by_test, all_append}
 use Rattle.dn_model.specs.declared.feed.External.{External}
 use Rattle.dn_model.specs.Cases.{Heading, AreExternals}
 use Rattle.dn_model.specs.Network.{Network, routers}
@@ -28,7 +27,7 @@ use Rattle.dn_drive.proofs.Going.{Goes}
 
 -- ---- what is chosen is allowed
 
-same_itself : (x : External) → is_same_external x x ≡ true
+pub same_itself : (x : External) → is_same_external x x ≡ true
 same_itself x =
     both_from ((x.group == x.group) && (x.router == x.router)) (is_eq (input_cmp x.input x.input))
     (both_from (x.group == x.group) (x.router == x.router) (eq-eqb x.group x.group refl) (eq-eqb x.router x.router refl))
@@ -44,6 +43,10 @@ module _ (P : Step → Type 0) where
   unfolding numbers
   all_numbers r zero f = tt
   all_numbers r (suc n) f = (f r (omega arith), all_numbers (suc r) n (λ i l. f i (omega arith)))
+
+  all_together : (ss ts : List Step) → AllByRecursion P ss → AllByRecursion P ts → AllByRecursion P (ss ++ ts)
+  all_together [] ts a b = b
+  all_together (s ∷ ss) ts a b = (a.0, all_together ss ts a.1 b)
 
   all_if : (g : ℕ → Step) (r : ℕ) (ns : List ℕ) (b : Bool) → (b ≡ true → P (g r)) → AllByRecursion P (map g ns) → AllByRecursion P (map g (if b then r ∷ ns else ns))
   all_if g r ns true f a = (f refl, a)
@@ -69,7 +72,7 @@ module _ (h : Heading) (w : World) where
   -- where no group is left, the last has begun
   beacon_or_close : (xs : List External) → w.closed ≡ false → w.floor < h.groups → (suc w.floor < h.groups → starts_later w.floor xs ≡ true) → (h.groups ≤ suc w.floor → is_empty xs ≡ true) → May xs (next_group h w)
   beacon_or_close xs c fl later none =
-      by_test (nat_lt (suc w.floor) h.groups)
+      ⊎_elim
       (λ t.
       let lt : suc w.floor < h.groups = ltb-true (suc w.floor) h.groups t in
       subst (May xs) (sym (if_true (nat_lt (suc w.floor) h.groups) Beacon Close t))
@@ -78,11 +81,12 @@ module _ (h : Heading) (w : World) where
       let le : h.groups ≤ suc w.floor = ltb-false (suc w.floor) h.groups t in
       subst (May xs) (sym (if_false (nat_lt (suc w.floor) h.groups) Beacon Close t))
       (both_from (not w.closed && (suc w.floor == h.groups)) (is_empty xs) (both_from (not w.closed) (suc w.floor == h.groups) (open_so c) (eq-eqb (suc w.floor) h.groups (omega arith))) (none le)))
+      (cases_Bool (nat_lt (suc w.floor) h.groups))
 
   feed_may : (xs : List External) → w.closed ≡ false → w.floor < h.groups → AreExternals h w.floor xs → May xs (open_feed h w xs)
   feed_may [] c fl a = beacon_or_close [] c fl (λ _. refl) (λ _. refl)
   feed_may (x ∷ xs) c fl a =
-      by_test (x.group == w.floor)
+      ⊎_elim
       (λ t.
       subst (May (x ∷ xs)) (sym (if_true (x.group == w.floor) (Inject x) (next_group h w) t))
       (both_from (not w.closed && (x.group == w.floor)) (is_same_external x x) (both_from (not w.closed) (x.group == w.floor) (open_so c) t) (same_itself x)))
@@ -93,6 +97,7 @@ module _ (h : Heading) (w : World) where
       let later : w.floor < x.group = omega arith in
       subst (May (x ∷ xs)) (sym (if_false (x.group == w.floor) (Inject x) (next_group h w) t))
       (beacon_or_close (x ∷ xs) c fl (λ _. lt-ltb w.floor x.group later) (λ l. absurd (omega (arith, l, later, below)))))
+      (cases_Bool (x.group == w.floor))
 
   all_feed : (xs : List External) (b : Bool) → (b ≡ false → May xs (open_feed h w xs)) → AllByRecursion (May xs) (if b then [] else open_feed h w xs ∷ [])
   all_feed xs true f = tt
@@ -109,10 +114,10 @@ module _ (h : Heading) (w : World) where
       let zero_more : i ≡ 0 + i = omega arith in
       subst (λ n. (nat_lt n (length h.routers) && q (get_or w.parts n no_part)) ≡ true) zero_more
       (both_from (nat_lt i (length h.routers)) (q (get_or w.parts i no_part)) (lt-ltb i (length h.routers) (omega (arith, e, l))) t) in
-      all_append (May xs) (feed_steps h w xs) _ (all_feed xs w.closed (λ c. feed_may xs c fl a))
-      (all_append (May xs) (map Deliver (numbers 0 (length w.flight))) _ (all_numbers (May xs) 0 (length w.flight) (λ i l. lt-ltb i (length w.flight) (omega (arith, l))))
-      (all_append (May xs) (map RollBack (passing is_behind 0 w.parts)) _ (all_passing (May xs) RollBack is_behind 0 w.parts (router is_behind))
-      (all_append (May xs) (map Handle (passing is_ready 0 w.parts)) _ (all_passing (May xs) Handle is_ready 0 w.parts (router is_ready))
+      all_together (May xs) (feed_steps h w xs) _ (all_feed xs w.closed (λ c. feed_may xs c fl a))
+      (all_together (May xs) (map Deliver (numbers 0 (length w.flight))) _ (all_numbers (May xs) 0 (length w.flight) (λ i l. lt-ltb i (length w.flight) (omega (arith, l))))
+      (all_together (May xs) (map RollBack (passing is_behind 0 w.parts)) _ (all_passing (May xs) RollBack is_behind 0 w.parts (router is_behind))
+      (all_together (May xs) (map Handle (passing is_ready 0 w.parts)) _ (all_passing (May xs) Handle is_ready 0 w.parts (router is_ready))
       (all_commit xs (can_commit h w)))))
 
 -- ---- the schedule, one step after another

@@ -1,10 +1,9 @@
 -- Each step of a legal run is taken where the case is just what the run injects.
 use Rattle.std.proofs.Common.{◌≡◌, ◌⊎◌, inl, inr, ℕ, suc, ◌<◌, Bool, true, false, not, ◌&&◌, List, [], ◌∷◌, ◌++◌, refl, sym, ap, ◌∙◌, subst, arith}
-use Rattle.std.specs.Prelude.{◌==◌, if◌then◌else◌, slice_get}
+use Rattle.std.specs.Prelude.{if◌then◌else◌, slice_get}
 use Rattle.std.specs.Cmp.{tied_itself}
-use Rattle.std.specs.Ordering.{is_eq, is_gt}
-use Rattle.std.proofs.lemmas.Bool.{eq-eqb, lt-ltb}
-use Rattle.dn_guest.specs.InputOrder.{input_cmp, input_total}
+use Rattle.std.specs.Ordering.{is_gt}
+use Rattle.std.proofs.lemmas.Bool.{lt-ltb}
 use Rattle.dn_model.specs.declared.feed.External.{External}
 use Rattle.dn_model.specs.declared.key.Key.{Key}
 use Rattle.dn_model.specs.Cases.{Heading}
@@ -17,12 +16,13 @@ use Rattle.dn_world.specs.Steps.{is_enabled, beacon, roll_back, after}
 use Rattle.dn_world.specs.Runs.{IsLegal, IsLegalFrom, injects, is_cut_off, run, world}
 use Rattle.dn_fabric.specs.Work.{can_commit}
 use Rattle.dn_drive.specs.declared.ended.Ended.TheVariants.{Whole, Cut, Open}
-use Rattle.dn_drive.specs.Allowed.{end_of, is_allowed, is_fed, is_next, legal_front, rerun, rest_after, starts_later}
+use Rattle.dn_drive.specs.Allowed.{end_of, is_allowed, is_fed, legal_front, rerun, rest_after, starts_later}
 use Rattle.dn_drive.proofs.Allowing.{both_from}
 use Rattle.dn_drive.proofs.Following.{rerun_cut, rerun_end, rerun_on}
 use Rattle.dn_drive.proofs.Going.{deliver_same, handle_same}
 use Rattle.dn_drive.proofs.Journals.{front_begins, taken_cut}
 use Rattle.dn_drive.proofs.May.{may}
+use Rattle.dn_drive.proofs.Scheduling.{same_itself}
 
 -- ---- the end
 
@@ -41,13 +41,6 @@ unfolding end_of
 end_is_whole h w q e = whole_if (is_quiet w) (can_commit h w) q (none_at_horizon h w e)
 
 -- ---- what a run injects
-
--- the external itself is the next one
-is_next_itself : (x : External) (xs : List External) → is_next (x ∷ xs) x ≡ true
-is_next_itself x xs =
-    both_from ((x.group == x.group) && (x.router == x.router)) (is_eq (input_cmp x.input x.input))
-    (both_from (x.group == x.group) (x.router == x.router) (eq-eqb x.group x.group refl) (eq-eqb x.router x.router refl))
-    (ap is_eq (tied_itself input_total x.input))
 
 module _ {S : Type 0} (net : Network S) where
   first_of : (w : World) (s : Step) (ss : List Step) → IsLegalFrom net w (s ∷ ss) → is_enabled net w s ≡ true
@@ -95,7 +88,7 @@ module _ {S : Type 0} (net : Network S) where
   first_is_fed : (w : World) (s : Step) (ss : List Step) → IsLegalFrom net w (s ∷ ss) → is_fed w.floor (injects (s ∷ ss)) s ≡ true
   unfolding injects after beacon
   first_is_fed w Beacon ss l = none_before (after net w Beacon) ss w.floor (behind_of w Beacon ss l) (omega arith)
-  first_is_fed w (Inject x) ss l = is_next_itself x (injects ss)
+  first_is_fed w (Inject x) ss l = same_itself x
   first_is_fed w Close ss l = ap is_empty (none_if_closed (after net w Close) ss (behind_of w Close ss l) refl)
   first_is_fed w (Deliver place) ss l = refl
   first_is_fed w (Handle r) ss l = refl

@@ -11,17 +11,19 @@
 //! | `sink.rt` | the trait `Sink`, and `Put`, the answer of a write |
 //! | `read.rt` | `read_all`, reading to the end within a limit |
 //! | `write.rt` | `put_all`, writing all of some bytes |
+//! | `laws.rt` | laws of what is written piece by piece |
 //! | `memory.rt` | `MemSource` and `MemSink`, which tell all and fail at the calls that they are told |
 //! | `standard.rt` | `StdSource` and `StdSink`, over std's readers and writers |
 //!
 //! The one contract upwards is that of the two traits, in the words of `specs/Streams.antt`: bytes
-//! come and go in order, none is lost or made up, and a failure has its cause in a count. Laws about
-//! those words, for callers that write one piece after another, stand in `proofs/StreamLaws.antt`.
+//! come and go in order, none is lost or made up, and a failure has its cause in a count. Callers that
+//! write one piece after another call the laws about those words.
 //!
 //! The answers are those of `read()` and `write()` in POSIX.1-2017: a number of bytes, which may be
 //! fewer than were asked for, the end of the input, or a failure.
 #![tactic(auto)]
 
+pub mod laws;
 mod memory;
 mod read;
 mod sink;

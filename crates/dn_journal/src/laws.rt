@@ -1,7 +1,7 @@
 //! Laws over all journals. Each is the contract of a function that does nothing; whoever needs one calls it.
 
 ghost use Rattle.std.specs.Prelude.{◌≡◌, ◌<◌, ◌^◌, ℕ, List, length};
-ghost use Rattle.std.specs.List.{AllByRecursion};
+ghost use Rattle.std.specs.List.{AllByRecursion, concat};
 ghost use Rattle.dn_model.specs.Cases.{Heading, IsHeading};
 ghost use Rattle.dn_model.specs.Network.{Network};
 ghost use Rattle.dn_text.specs.Lines.{lines};
@@ -31,6 +31,11 @@ pub fn steps_have_one_text()
 /// A text that is no journal has one first bad line.
 pub fn a_text_has_one_first_bad_line()
     ensures { (h : Heading) (ls : List (List ℕ)) (m n : ℕ) → IsFirstBad h ls m → IsFirstBad h ls n → m ≡ n }
+{}
+
+/// The lines of a text, one behind the other, are the text.
+pub fn lines_are_the_text()
+    ensures { (text : List ℕ) → concat (lines text) ≡ text }
 {}
 
 /// The steps of a legal run of a network are steps that a journal of its header may have: their routers are

@@ -1,4 +1,5 @@
 pub mod Until
+pub mod Kept
 pub mod Replays
 pub mod Network
 pub mod Marks

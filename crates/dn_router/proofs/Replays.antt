@@ -1,9 +1,6 @@
 -- Replays, and the nodes that are kept.
-use Rattle.std.proofs.Common.{◌≡◌, ℕ, zero, suc, ◌+◌, ◌<◌, ◌≤◌, max, List, [], ◌∷◌, ◌++◌, length, get_or, take, drop, drop-cons, add-one, append-nil, append_assoc, refl, sym, ap, ◌∙◌, subst, arith}
+use Rattle.std.proofs.Common.{◌≡◌, ℕ, zero, suc, ◌+◌, ◌<◌, ◌≤◌, List, [], ◌∷◌, ◌++◌, length, get_or, take, drop, drop-cons, add-one, append-nil, append_assoc, refl, sym, ap, ◌∙◌, subst, arith}
 use Rattle.std.specs.Prelude.{Some}
-use Rattle.std.specs.Ordering.{nat_cmp}
-use Rattle.std.specs.declared.cmp.Ordering.TheVariants.{Equal, Greater}
-use Rattle.std.specs.Cmp.{nat_cmp_is}
 use Rattle.dn_guest.specs.declared.node.Node.{Node}
 use Rattle.dn_guest.specs.declared.node.Sent.{Sent}
 use Rattle.dn_guest.specs.Meaning.{Meaning}
@@ -11,8 +8,9 @@ use Rattle.dn_guest.specs.Node.{node_after, node_sent}
 use Rattle.dn_model.specs.declared.event.Event.{Event}
 use Rattle.dn_model.specs.declared.link.End.{End}
 use Rattle.dn_model.specs.declared.timing.Timing.{Timing}
-use Rattle.dn_ckpt.specs.Shelves.{Kept, kept_at, kept_up_to, with_kept, base_place, HasBase}
+use Rattle.dn_ckpt.specs.Shelves.{Kept, kept_at, kept_from, kept_up_to, with_kept, base_place, HasBase}
 use Rattle.dn_ckpt.proofs.Entries.{le_is, not_le}
+use Rattle.dn_router.proofs.Kept.{cmp_same, cmp_past, has_at, base_at, at_from, from_from}
 use Rattle.dn_router.specs.Replays.{node_over, emitted_at, emitted_over, last_sent, nodes_over}
 
 -- the list from a place on: the element there and the rest
@@ -66,12 +64,6 @@ module _ {S : Type 0} (guests : Meaning S) where
 
   -- ---- the kept nodes
 
-  cmp_same : (n m : ℕ) → n ≡ m → nat_cmp n m ≡ Equal
-  cmp_same n m h = sym (nat_cmp_is n m Equal h)
-
-  cmp_past : (n m : ℕ) → m < n → nat_cmp n m ≡ Greater
-  cmp_past n m h = sym (nat_cmp_is n m Greater h)
-
   pub kept_node : (k : ℕ) (node : Node S) (es : List Event) (i p : ℕ) → p ≡ k + i → i ≤ length es → kept_at (nodes_over guests k node es) p ≡ Some (node_over guests node (take i es))
   unfolding nodes_over node_over
   kept_node k node [] zero p h l = let g = cmp_same p k (omega (arith, h)) in simp g
@@ -80,30 +72,6 @@ module _ {S : Type 0} (guests : Meaning S) where
   kept_node k node (e ∷ es) (suc i) p h l =
       let g = cmp_past p k (omega (arith, h)) in
       simp g (kept_node (suc k) (node_after guests node e.input) es i p (omega (arith, h)) (omega (arith, l)))
-
-  -- past its places
-  base_none : (k : ℕ) (node : Node S) (es : List Event) (p : ℕ) → p < k → base_place p (nodes_over guests k node es) ≡ 0
-  unfolding nodes_over base_place
-  base_none k node [] p h = let g = not_le k p h in simp g
-  base_none k node (e ∷ es) p h = let g = not_le k p h in simp g (base_none (suc k) (node_after guests node e.input) es p (omega (arith, h)))
-
-  pub kept_base : (k : ℕ) (node : Node S) (es : List Event) (i p : ℕ) → p ≡ k + i → i ≤ length es → base_place p (nodes_over guests k node es) ≡ p
-  unfolding nodes_over base_place
-  kept_base k node [] zero p h l = let g = le_is k p (omega (arith, h)) in simp g (omega (arith, h))
-  kept_base k node [] (suc i) p h l = absurd (omega (arith, l))
-  kept_base k node (e ∷ es) zero p h l =
-      let g = le_is k p (omega (arith, h)) in
-      let none = base_none (suc k) (node_after guests node e.input) es p (omega (arith, h)) in
-      simp g (ap (max k) none ∙ (let m : max k 0 ≡ p = omega (arith, h) in m))
-  kept_base k node (e ∷ es) (suc i) p h l =
-      let g = le_is k p (omega (arith, h)) in
-      let ih = kept_base (suc k) (node_after guests node e.input) es i p (omega (arith, h)) (omega (arith, l)) in
-      simp g (ap (max k) ih ∙ (let m : max k p ≡ p = omega (arith, h) in m))
-
-  pub kept_has : (node : Node S) (es : List Event) (p : ℕ) → HasBase p (nodes_over guests 0 node es)
-  unfolding nodes_over
-  kept_has node [] p = let g = le_is 0 p (omega arith) in simp g (omega arith)
-  kept_has node (e ∷ es) p = let g = le_is 0 p (omega arith) in simp g (omega arith)
 
   -- one more is kept
   pub kept_more : (k : ℕ) (node : Node S) (es : List Event) (e : Event) (p : ℕ) → p ≡ suc (k + length es) → with_kept (nodes_over guests k node es) p (node_over guests node (es ++ e ∷ [])) ≡ nodes_over guests k node (es ++ e ∷ [])
@@ -164,38 +132,37 @@ module _ {S : Type 0} (guests : Meaning S) where
   unfolding nodes_over
   kept_nothing k node = refl
 
-  -- the node that is kept for all of the events
-  pub kept_last : (node : Node S) (es : List Event) (p : ℕ) (kept : Kept S) (at : Node S) → p ≡ length es → kept ≡ nodes_over guests 0 node es → kept_at kept p ≡ Some at → at ≡ node_over guests node es
-  kept_last node es p kept at h is got =
-      let want = kept_node 0 node es (length es) p (omega (arith, h)) (omega arith) in
-      let same : Some at ≡ Some (node_over guests node (take (length es) es)) = sym got ∙ ap (λ k. kept_at k p) is ∙ want in
-      let here : at ≡ node_over guests node (take (length es) es) = cc in
-      here ∙ ap (node_over guests node) (all_of es)
+  -- ---- what is kept from a place on
+
+  pub kept_front : (node : Node S) (es : List Event) (f p : ℕ) → f ≤ p → p ≤ length es → kept_at (kept_from f (nodes_over guests 0 node es)) p ≡ Some (node_over guests node (take p es))
+  kept_front node es f p h l = at_from f p (nodes_over guests 0 node es) h ∙ kept_node 0 node es p p (omega arith) l
+
+  base_is : (node : Node S) (es : List Event) (f p : ℕ) (kept : Kept S) → f ≤ p → p ≤ length es → kept ≡ kept_from f (nodes_over guests 0 node es) → base_place p kept ≡ p
+  base_is node es f p kept h l is =
+      ap (base_place p) is ∙ base_at p (kept_from f (nodes_over guests 0 node es)) (node_over guests node (take p es)) (kept_front node es f p h l)
+
+  pub has_is : (node : Node S) (es : List Event) (f p : ℕ) (kept : Kept S) → f ≤ p → f ≤ length es → kept ≡ kept_from f (nodes_over guests 0 node es) → HasBase p kept
+  has_is node es f p kept h l is =
+      subst (HasBase p) (sym is) (has_at f p (kept_from f (nodes_over guests 0 node es)) (node_over guests node (take f es)) (kept_front node es f f (omega arith) l) h)
+
+  -- what `base_for` gives for the place after a front of the events
+  pub base_front : (node : Node S) (es : List Event) (f len : ℕ) (kept : Kept S) (place : ℕ) (at : Node S) → f ≤ len → len ≤ length es → kept ≡ kept_from f (nodes_over guests 0 node es) → place ≡ base_place len kept → kept_at kept place ≡ Some at → (place ≡ len) × (at ≡ node_over guests node (take len es))
+  base_front node es f len kept place at h l is p got =
+      let here : place ≡ len = p ∙ base_is node es f len kept h l is in
+      let same : Some at ≡ Some (node_over guests node (take len es)) = sym got ∙ (λ i. kept_at (is i) (here i)) ∙ kept_front node es f len h l in
+      (here, cc)
+
+  -- and for that after all of them
+  pub base_last : (node : Node S) (es : List Event) (f len : ℕ) (kept : Kept S) (place : ℕ) (at : Node S) → f ≤ length es → len ≡ length es → kept ≡ kept_from f (nodes_over guests 0 node es) → place ≡ base_place len kept → kept_at kept place ≡ Some at → (place ≡ length es) × (at ≡ node_over guests node es)
+  base_last node es f len kept place at h l is p got =
+      let front = base_front node es f len kept place at (omega (arith, h, l)) (omega (arith, l)) is p got in
+      (front.0 ∙ l, front.1 ∙ ap (λ n. node_over guests node (take n es)) l ∙ ap (node_over guests node) (all_of es))
     where
       all_of : (xs : List Event) → take (length xs) xs ≡ xs
       all_of [] = refl
       all_of (x ∷ xs) = ap (λ l. x ∷ l) (all_of xs)
 
-  -- the node that is kept for a front of them
-  pub kept_front : (node : Node S) (es : List Event) (p : ℕ) (kept : Kept S) (at : Node S) → p ≤ length es → kept ≡ nodes_over guests 0 node es → kept_at kept p ≡ Some at → at ≡ node_over guests node (take p es)
-  kept_front node es p kept at h is got =
-      let want = kept_node 0 node es p p (omega arith) h in
-      let same : Some at ≡ Some (node_over guests node (take p es)) = sym got ∙ ap (λ k. kept_at k p) is ∙ want in
-      cc
-
-  pub base_is : (node : Node S) (es : List Event) (p : ℕ) (kept : Kept S) → p ≤ length es → kept ≡ nodes_over guests 0 node es → base_place p kept ≡ p
-  base_is node es p kept h is = ap (base_place p) is ∙ kept_base 0 node es p p (omega arith) h
-
-  pub has_is : (node : Node S) (es : List Event) (p : ℕ) (kept : Kept S) → kept ≡ nodes_over guests 0 node es → HasBase p kept
-  has_is node es p kept is = subst (HasBase p) (sym is) (kept_has node es p)
-
-  -- what `base_for` gives for the place after all of the events, or after a front of them
-  pub base_last : (node : Node S) (es : List Event) (len : ℕ) (kept : Kept S) (place : ℕ) (at : Node S) → len ≡ length es → kept ≡ nodes_over guests 0 node es → place ≡ base_place len kept → kept_at kept place ≡ Some at → (place ≡ length es) × (at ≡ node_over guests node es)
-  base_last node es len kept place at l is p got =
-      let here : place ≡ len = p ∙ base_is node es len kept (omega (arith, l)) is in
-      (here ∙ l, kept_last node es place kept at (here ∙ l) is got)
-
-  pub base_front : (node : Node S) (es : List Event) (len : ℕ) (kept : Kept S) (place : ℕ) (at : Node S) → len ≤ length es → kept ≡ nodes_over guests 0 node es → place ≡ base_place len kept → kept_at kept place ≡ Some at → at ≡ node_over guests node (take len es)
-  base_front node es len kept place at l is p got =
-      let here : place ≡ len = p ∙ base_is node es len kept l is in
-      kept_front node es place kept at (omega (arith, here, l)) is got ∙ ap (λ n. node_over guests node (take n es)) here
+  -- what `trim` leaves
+  pub trimmed : (node : Node S) (es : List Event) (f p : ℕ) (kept after : Kept S) → f ≤ p → p ≤ length es → kept ≡ kept_from f (nodes_over guests 0 node es) → after ≡ kept_from (base_place p kept) kept → after ≡ kept_from p (nodes_over guests 0 node es)
+  trimmed node es f p kept after h l is a =
+      a ∙ (λ i. kept_from (base_is node es f p kept h l is i) (is i)) ∙ from_from f p (nodes_over guests 0 node es) h

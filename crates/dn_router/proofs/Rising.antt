@@ -99,6 +99,12 @@ below_append b xs ys = filter_append (is_below b) xs ys
 pub below_past : (b : Key) (xs ys : List Event) → AllByRecursion (λ x. IsPast b x.key) ys → below b (xs ++ ys) ≡ below b xs
 below_past b xs ys a = below_append b xs ys ∙ ap (λ l. below b xs ++ l) (none_below b ys a) ∙ append-nil (below b xs)
 
+pub below_short : (b : Key) (es : List Event) → length (below b es) ≤ length es
+unfolding below
+below_short b [] = omega arith
+below_short b (e ∷ es) =
+    let ih = below_short b es in by_test (is_below b e) (λ g. simp g (omega (arith, ih))) (λ g. simp g (omega (arith, ih)))
+
 -- a later key has no fewer below it
 pub below_grows : (a b : Key) (e : Event) → IsPast a b → is_below a e ≡ true → is_below b e ≡ true
 unfolding is_below

@@ -6,13 +6,14 @@ use Rattle.dn_model.specs.declared.event.Event.{Event}
 use Rattle.dn_model.specs.declared.key.Key.{Key}
 use Rattle.dn_world.specs.World.{Part, with_todo}
 use Rattle.dn_world.specs.Steps.{until, since, is_wrong}
-use Rattle.dn_ckpt.specs.Shelves.{kept_up_to}
+use Rattle.dn_ckpt.specs.Shelves.{kept_from, kept_up_to}
 use Rattle.dn_router.specs.Replays.{node_over, nodes_over, emitted_over}
 use Rattle.dn_router.specs.Routers.{Speculation, rolled_back, staying, taken_back, unsent}
 use Rattle.dn_router.specs.Sound.{IsSound}
 use Rattle.dn_router.proofs.Until.{until_same, until_short, take_until, drop_until}
+use Rattle.dn_router.proofs.Kept.{cut_from}
 use Rattle.dn_router.proofs.Replays.{kept_cut}
-use Rattle.dn_router.proofs.Sound.{beside, todo_beside, sound_rolled}
+use Rattle.dn_router.proofs.Sound.{beside, todo_beside, sound_rolled, stay_reached}
 
 wrong_beside : (done : List Event) (q : Part) (e : Event) → is_wrong q e ≡ is_wrong (beside done q) e
 unfolding is_wrong
@@ -43,16 +44,25 @@ rolled_is done q after place left taken h l t a =
     ∙ ap (λ es. with_todo es (beside (staying (beside done q)) (beside done q))) (t ∙ back_is done q place h)
 
 module _ {S : Type 0} (guests : Meaning S) where
+  -- a node is kept for the entries before the first wrong one
+  pub place_reached : (number period : ℕ) (opening : Node S) (done : List Event) (q : Part) (place : ℕ) (shelf : List (ℕ × Node S)) (w c : ℕ) (bound : Key) → IsSound guests number period opening (beside done q) shelf w c bound → place ≡ length (until (is_wrong q) done) → c ≤ place
+  place_reached number period opening done q place shelf w c bound s h =
+      let stay = stay_reached guests number period opening (beside done q) shelf w c bound s in
+      let is = place_is done q place h in
+      omega (arith, stay, is)
+
   pub sound_after : (number period : ℕ) (opening : Node S) (done : List Event) (q after : Part) (place : ℕ) (left taken came lost : List Event) (shelf cut : List (ℕ × Node S)) (w c : ℕ) (bound : Key) → IsSound guests number period opening (beside done q) shelf w c bound → place ≡ length (until (is_wrong q) done) → left ≡ take place done → taken ≡ drop place done → taken ≡ came ++ lost → after ≡ with_todo came q → cut ≡ kept_up_to place shelf → IsSound guests number period opening (beside left after) cut 0 c bound
   sound_after number period opening done q after place left taken came lost shelf cut w c bound s h l t parts a k =
       let p = beside done q in
       let off : since (is_wrong p) p.done ≡ came ++ lost = sym (back_is done q place h) ∙ sym t ∙ parts in
       let sound = sound_rolled guests number period opening p came lost shelf w c bound s off in
-      let kept : cut ≡ nodes_over guests 0 opening (staying p) =
-      k ∙ ap (kept_up_to place) s.kept
-      ∙ kept_cut guests 0 opening done place place (omega arith) (place_short done q place h)
+      let nodes = nodes_over guests 0 opening (staying p) in
+      let front : kept_up_to place (nodes_over guests 0 opening done) ≡ nodes =
+      kept_cut guests 0 opening done place place (omega arith) (place_short done q place h)
       ∙ ap (nodes_over guests 0 opening) (front_is done q place h) in
-      let on_part = subst (λ (x : Part). IsSound guests number period opening x (nodes_over guests 0 opening (staying p)) 0 c bound) (sym (part_is done q after place left came h l a)) sound in
+      let kept : cut ≡ kept_from c nodes =
+      k ∙ ap (kept_up_to place) s.kept ∙ cut_from c place (nodes_over guests 0 opening done) ∙ ap (kept_from c) front in
+      let on_part = subst (λ (x : Part). IsSound guests number period opening x (kept_from c nodes) 0 c bound) (sym (part_is done q after place left came h l a)) sound in
       subst (λ (x : List (ℕ × Node S)). IsSound guests number period opening (beside left after) x 0 c bound) (sym kept) on_part
 
   -- what is unsent

@@ -1,5 +1,5 @@
 -- What holds of a router's parts holds after each call.
-use Rattle.std.proofs.Common.{◌≡◌, ℕ, ◌<◌, Bool, true, false, List, [], ◌∷◌, ◌++◌, length, refl, sym, ap, ◌∙◌, subst, arith}
+use Rattle.std.proofs.Common.{◌≡◌, ℕ, ◌<◌, ◌≤◌, Bool, true, false, List, [], ◌∷◌, ◌++◌, length, refl, sym, ap, ◌∙◌, subst, arith}
 use Rattle.std.specs.List.{AllByRecursion, list_any}
 use Rattle.std.specs.List.Sorted.{IsSorted}
 use Rattle.std.proofs.lemmas.Bool.{false≢true}
@@ -16,12 +16,13 @@ use Rattle.dn_world.specs.Steps.{arrived, until, since, is_wrong}
 use Rattle.dn_world.specs.Runs.{IsPast, IsTidy}
 use Rattle.dn_world.proofs.Parts.{all_unmatched, all_since, all_until, until_since, waits_todo, waits_void}
 use Rattle.dn_world.proofs.Tidy.{todo_tidy, void_tidy}
+use Rattle.dn_ckpt.specs.Shelves.{kept_from}
 use Rattle.dn_router.specs.Replays.{nodes_over}
 use Rattle.dn_model.specs.declared.link.End.{End}
 use Rattle.dn_model.specs.declared.timing.Timing.{Timing}
 use Rattle.dn_router.specs.Routers.{Speculation}
 use Rattle.dn_router.specs.Sound.{IsSound, MayWait, marked_in}
-use Rattle.dn_router.proofs.Rising.{sorted_push, sorted_until, taken_past, below_past, none_handled}
+use Rattle.dn_router.proofs.Rising.{sorted_push, sorted_until, taken_past, below_past, below_short, none_handled}
 
 -- a part by its lists
 abbrev pub beside : List Event → Part → Part
@@ -93,7 +94,7 @@ first_of P todo es e is a = subst (AllByRecursion P) is a
 
 module _ {S : Type 0} (guests : Meaning S) (number period : ℕ) (opening : Node S) where
   pub sound_new : 0 < period → (bound : Key) → IsSound guests number period opening no_part (nodes_over guests 0 opening []) 0 0 bound
-  unfolding below
+  unfolding below nodes_over
   sound_new t bound = record {
     timed = t;
     tidy = record { todo = λ k d a b. absurd (omega (arith, b)); voids = λ k d a b. absurd (omega (arith, b)); apart = tt };
@@ -117,12 +118,12 @@ module _ {S : Type 0} (guests : Meaning S) (number period : ℕ) (opening : Node
         own = subst (AllByRecursion (λ x. x.router ≡ number)) done s.own;
         todo = waits.0;
         voids = waits.1;
-        kept = s.kept ∙ ap (nodes_over guests 0 opening) done;
+        kept = s.kept ∙ ap (λ d. kept_from c (nodes_over guests 0 opening d)) done;
         wrong = ap (λ d. marked_in d (arrived (record { plus = plus; event = e }) p).voids) done;
         committed = s.committed ∙ ap (λ d. length (below bound d)) done;
       }
 
-  pub sound_handled : (p : Part) (e : Event) (es : List Event) (shelf : List (ℕ × Node S)) (w c : ℕ) (bound : Key) → IsSound guests number period opening p shelf w c bound → p.todo ≡ e ∷ es → is_behind p ≡ false → IsSound guests number period opening (record p { done = p.done ++ e ∷ []; todo = es }) (nodes_over guests 0 opening (p.done ++ e ∷ [])) w c bound
+  pub sound_handled : (p : Part) (e : Event) (es : List Event) (shelf : List (ℕ × Node S)) (w c : ℕ) (bound : Key) → IsSound guests number period opening p shelf w c bound → p.todo ≡ e ∷ es → is_behind p ≡ false → IsSound guests number period opening (record p { done = p.done ++ e ∷ []; todo = es }) (kept_from c (nodes_over guests 0 opening (p.done ++ e ∷ []))) w c bound
   sound_handled p e es shelf w c bound s is h =
       let one = first_of (MayWait number bound) p.todo es e is s.todo in
       let apart = subst (λ l. AllByRecursion (λ v. stands v l ≡ false) p.voids) is s.tidy.apart in
@@ -145,15 +146,32 @@ module _ {S : Type 0} (guests : Meaning S) (number period : ℕ) (opening : Node
 
   -- ---- taking back
 
-  pub sound_rolled : (p : Part) (came lost : List Event) (shelf : List (ℕ × Node S)) (w c : ℕ) (bound : Key) → IsSound guests number period opening p shelf w c bound → since (is_wrong p) p.done ≡ came ++ lost → IsSound guests number period opening (with_todo came (beside (until (is_wrong p) p.done) p)) (nodes_over guests 0 opening (until (is_wrong p) p.done)) 0 c bound
+  off_past : (p : Part) (shelf : List (ℕ × Node S)) (w c : ℕ) (bound : Key) → IsSound guests number period opening p shelf w c bound → AllByRecursion (λ x. IsPast bound x.key) (since (is_wrong p) p.done)
+  off_past p shelf w c bound s =
+      let past_todo = all_weaker (MayWait number bound) (λ x. IsPast bound x.key) p.todo (λ x k. k.1) s.todo in
+      let past_voids = all_weaker (MayWait number bound) (λ x. IsPast bound x.key) p.voids (λ x k. k.1) s.voids in
+      taken_past bound p s.sorted past_todo past_voids
+
+  -- no committed entry is taken off
+  stay_committed : (p : Part) (shelf : List (ℕ × Node S)) (w c : ℕ) (bound : Key) → IsSound guests number period opening p shelf w c bound → c ≡ length (below bound (until (is_wrong p) p.done))
+  stay_committed p shelf w c bound s =
+      s.committed
+      ∙ ap (λ d. length (below bound d)) (sym (until_since (is_wrong p) p.done))
+      ∙ ap length (below_past bound (until (is_wrong p) p.done) (since (is_wrong p) p.done) (off_past p shelf w c bound s))
+
+  -- so a node is kept for the entries that stay
+  pub stay_reached : (p : Part) (shelf : List (ℕ × Node S)) (w c : ℕ) (bound : Key) → IsSound guests number period opening p shelf w c bound → c ≤ length (until (is_wrong p) p.done)
+  stay_reached p shelf w c bound s =
+      let counted = stay_committed p shelf w c bound s in
+      let short = below_short bound (until (is_wrong p) p.done) in
+      omega (arith, counted, short)
+
+  pub sound_rolled : (p : Part) (came lost : List Event) (shelf : List (ℕ × Node S)) (w c : ℕ) (bound : Key) → IsSound guests number period opening p shelf w c bound → since (is_wrong p) p.done ≡ came ++ lost → IsSound guests number period opening (with_todo came (beside (until (is_wrong p) p.done) p)) (kept_from c (nodes_over guests 0 opening (until (is_wrong p) p.done))) 0 c bound
   unfolding with_todo cancelled
   sound_rolled p came lost shelf w c bound s is =
       let stay = until (is_wrong p) p.done in
       let off = since (is_wrong p) p.done in
-      let whole = until_since (is_wrong p) p.done in
-      let past_todo = all_weaker (MayWait number bound) (λ x. IsPast bound x.key) p.todo (λ x k. k.1) s.todo in
-      let past_voids = all_weaker (MayWait number bound) (λ x. IsPast bound x.key) p.voids (λ x k. k.1) s.voids in
-      let past = taken_past bound p s.sorted past_todo past_voids in
+      let past = off_past p shelf w c bound s in
       let own_off = all_since (λ x. x.router ≡ number) (is_wrong p) p.done s.own in
       let may = all_both (λ x. x.router ≡ number) (λ x. IsPast bound x.key) off own_off past in
       let may_came = front_of (MayWait number bound) came lost (subst (AllByRecursion (MayWait number bound)) is may) in
@@ -167,7 +185,7 @@ module _ {S : Type 0} (guests : Meaning S) (number period : ℕ) (opening : Node
         voids = waits.1;
         kept = refl;
         wrong = sym (count_none (λ v. stands v stay) (with_todo came (beside stay p)).voids (all_unmatched (λ v. stands v stay ≡ false) (sorted (came ++ p.todo)) p.voids (none_handled p)));
-        committed = s.committed ∙ ap (λ d. length (below bound d)) (sym whole) ∙ ap length (below_past bound stay off past);
+        committed = stay_committed p shelf w c bound s;
       }
     where
       front_of : (P : Event → Type 0) (xs ys : List Event) → AllByRecursion P (xs ++ ys) → AllByRecursion P xs
@@ -176,7 +194,7 @@ module _ {S : Type 0} (guests : Meaning S) (number period : ℕ) (opening : Node
 
   -- ---- committing
 
-  pub sound_committed : (p : Part) (shelf : List (ℕ × Node S)) (w c : ℕ) (bound key : Key) → IsSound guests number period opening p shelf w c bound → AllByRecursion (λ e. IsPast key e.key) (p.todo ++ p.voids) → IsSound guests number period opening p shelf w (length (below key p.done)) key
+  pub sound_committed : (p : Part) (shelf : List (ℕ × Node S)) (w c : ℕ) (bound key : Key) → IsSound guests number period opening p shelf w c bound → AllByRecursion (λ e. IsPast key e.key) (p.todo ++ p.voids) → IsSound guests number period opening p (kept_from (length (below key p.done)) (nodes_over guests 0 opening p.done)) w (length (below key p.done)) key
   sound_committed p shelf w c bound key s a =
       let both = split_all (λ e. IsPast key e.key) p.todo p.voids a in
       record {
@@ -186,7 +204,7 @@ module _ {S : Type 0} (guests : Meaning S) (number period : ℕ) (opening : Node
         own = s.own;
         todo = moved p.todo s.todo both.0;
         voids = moved p.voids s.voids both.1;
-        kept = s.kept;
+        kept = refl;
         wrong = s.wrong;
         committed = refl;
       }
@@ -198,6 +216,13 @@ module _ {S : Type 0} (guests : Meaning S) (number period : ℕ) (opening : Node
       moved : (es : List Event) → AllByRecursion (MayWait number bound) es → AllByRecursion (λ e. IsPast key e.key) es → AllByRecursion (MayWait number key) es
       moved [] a b = tt
       moved (e ∷ es) a b = ((a.0.0, b.0), moved es a.1 b.1)
+
+-- a node is kept for all entries
+pub done_reached : {S : Type 0} {guests : Meaning S} {number period : ℕ} {opening : Node S} {p : Part} {shelf : List (ℕ × Node S)} {w c : ℕ} {bound : Key} → IsSound guests number period opening p shelf w c bound → c ≤ length p.done
+done_reached {p = p} {bound = bound} s =
+    let counted = s.committed in
+    let short = below_short bound p.done in
+    omega (arith, counted, short)
 
 -- ---- a router by its parts
 

@@ -10,6 +10,7 @@ use Rattle.dn_model.specs.Order.{event_cmp}
 use Rattle.dn_model.specs.Settled.{below}
 use Rattle.dn_world.specs.World.{Part, stands}
 use Rattle.dn_world.specs.Runs.{IsPast, IsTidy}
+use Rattle.dn_ckpt.specs.Shelves.{kept_from}
 use Rattle.dn_router.specs.Replays.{nodes_over}
 
 -- how many of voids were handled
@@ -33,8 +34,8 @@ pub record IsSound {S : Type 0} (guests : Meaning S) (number period : ℕ) (open
   pub own : AllByRecursion (λ e. e.router ≡ number) part.done
   pub todo : AllByRecursion (MayWait number bound) part.todo
   pub voids : AllByRecursion (MayWait number bound) part.voids
-  -- a node is kept for each number of entries
-  pub kept : shelf ≡ nodes_over guests 0 opening part.done
+  -- a node is kept for each number of entries that isn't below the number of those committed
+  pub kept : shelf ≡ kept_from counted (nodes_over guests 0 opening part.done)
   -- how many of voids were handled
   pub wrong : marked ≡ marked_in part.done part.voids
   pub committed : counted ≡ length (below bound part.done)

@@ -6,7 +6,7 @@
 //! has moved on in between (`Stale`). When an earlier event has come, or one that was handled was unsent, the
 //! router is behind: `roll_back` takes the entries from the first wrong one on off its list, puts their events
 //! back into the queue, and answers what they had emitted, which is to be unsent. `commit_below` answers the
-//! entries that nothing can change any more.
+//! entries that nothing can change any more, and lets go the nodes that no rollback can reach.
 //!
 //! | File | What it has |
 //! |---|---|
@@ -24,8 +24,10 @@
 //! The one contract upwards: each call of `Router` is that change of its plain data and no other, with the
 //! events that fly; a node that it gives is the replay of `done`.
 //!
-//! There is a kept node for each number of events in `done`. So an order has one input. What entries had
-//! emitted isn't kept: `roll_back` replays them from the node that is kept at the first of them.
+//! There is a kept node for each number of entries of `done` that isn't below the number of those committed. So
+//! an order has one input. Nothing takes a committed entry off, so `commit_below` lets go the nodes that led to
+//! fewer. What entries had emitted isn't kept: `roll_back` replays them from the node that is kept at the first
+//! of them.
 //!
 //! After a call that answered want of memory a router is dropped by its caller. Such a call leaves it as it
 //! was, but `roll_back`, after which events may be lost.

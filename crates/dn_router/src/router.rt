@@ -38,7 +38,7 @@ pub struct Router<G: Guest> {
     /// What was handled, in order.
     done: Vec<Event>,
     queue: InQueue,
-    /// The nodes after 0, 1, .. entries of `done`.
+    /// The nodes after n, n + 1, .. entries of `done`, where n is the number of those committed.
     shelf: Shelf<G>,
     /// How many unsends wait whose event was handled.
     wrong: u64,
@@ -243,6 +243,7 @@ impl<G: Guest> Router<G> {
         let count = count_below(self.done.as_slice(), key);
         let fresh = between(self.done.as_slice(), self.committed as usize, count);
         let rows = copies(self.alloc, fresh)?;
+        self.shelf.trim(count as u64);
         self.committed = count as u64;
         self.bound = *key;
         Ok(rows)

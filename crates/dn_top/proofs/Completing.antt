@@ -2,21 +2,17 @@
 use Rattle.std.proofs.Common.{◌≡◌, ◌⊎◌, ℕ, ◌<◌, ◌≤◌, Bool, true, false, inl, inr, List, length, take, drop, Option, Some, None, refl, sym, ap, subst, ◌∙◌, arith}
 use Rattle.std.specs.Prelude.{IfSome, slice_get}
 use Rattle.std.proofs.Common.{get_or}
-use Rattle.std.specs.List.{concat}
 use Rattle.std.proofs.lemmas.List.{get_or-take}
 use Rattle.std.proofs.lemmas.Option.{slice_get-get_or}
 use Rattle.std.proofs.lemmas.Bool.{cases_lt}
 use Rattle.dn_io.specs.Streams.{Rose}
 use Rattle.dn_model.specs.Cases.{Recording}
-use Rattle.dn_text.specs.Lines.{lines}
-use Rattle.dn_case.specs.declared.cause.Cause.{Cause}
 use Rattle.dn_case.specs.declared.cause.CaseFault.{CaseFault}
-use Rattle.dn_case.proofs.OneCase.{one_case, one_first_bad}
 use Rattle.dn_trace.specs.Differing.{DiffersAt}
 use Rattle.dn_top.specs.declared.status.Status.{Status}
 use Rattle.dn_top.specs.declared.status.Status.TheVariants as status
 use Rattle.dn_top.specs.Promises.{HasCase, IsBadCase, HasItsTrace, HasOtherTrace, AnswersLockstep, AnswersCheck, is_cut_case, trace_of, input_limit}
-use Rattle.dn_top.specs.Completeness.{HasRun, RunOwes, whole_run, cut_run, no_case, too_big, CheckOwes, whole_trace, cut_trace, other_trace, no_case_to_check, too_big_to_check, IsCalm, IsAnswered}
+use Rattle.dn_top.specs.Completeness.{HasOneReading, HasRun, RunOwes, whole_run, cut_run, no_case, too_big, CheckOwes, whole_trace, cut_trace, other_trace, no_case_to_check, too_big_to_check, IsCalm, IsAnswered}
 
 absurd_bool : {A : Type 0} → false ≡ true → A
 absurd_bool is = cc
@@ -24,32 +20,20 @@ absurd_bool is = cc
 pub too_long : {A : Type 0} {n : ℕ} → n ≤ input_limit → input_limit < n → A
 too_long small big = absurd (omega (arith, small, big))
 
--- ---- one case, one first bad line
+-- an input, with that it is read in one way
+pub record Input : Type 0 where
+  pub bytes : List ℕ
+  pub one : HasOneReading bytes
 
-pub same_case : (input : List ℕ) (c d : Recording) (m n : ℕ) → HasCase input c m → HasCase input d n → (c ≡ d) × (m ≡ n)
-same_case input c d m n p q =
-    let one = one_case (lines input) p.front.count q.front.count c d p.front.whole q.front.whole in
-    let sizes = p.front.long ∙ ap (λ (l : List (List ℕ)). length (concat l)) one.0 ∙ sym q.front.long in
-    (one.1, sizes)
-
-pub no_bad_line : {A : Type 0} (input : List ℕ) (c : Recording) (n : ℕ) (f : CaseFault) → HasCase input c n → IsBadCase input f → A
+pub no_bad_line : {A : Type 0} (input : Input) (c : Recording) (n : ℕ) (f : CaseFault) → HasCase input.bytes c n → IsBadCase input.bytes f → A
 no_bad_line input c n f has bad = absurd (bad.none has.front.count c has.front.whole)
 
-unfoldable pub fault_at : ℕ → Cause → CaseFault
-fault_at l c = record { line = l; cause = c }
-
-pub same_fault : (input : List ℕ) (f g : CaseFault) → IsBadCase input f → IsBadCase input g → f ≡ g
-unfolding fault_at
-same_fault input f g p q =
-    let one = one_first_bad (lines input) f.line g.line f.cause g.cause p.first q.first in
-    ap (λ (l : ℕ). fault_at l f.cause) one.0 ∙ ap (λ (c : Cause). fault_at g.line c) one.1
-
-same_cut : (input : List ℕ) (x y : Bool) → HasRun input x → HasRun input y → x ≡ y
-same_cut input x y p q = sym p.is ∙ ap is_cut_case (same_case input p.case q.case p.size q.size p.has q.has).0 ∙ q.is
+same_cut : (input : Input) (x y : Bool) → HasRun input.bytes x → HasRun input.bytes y → x ≡ y
+same_cut input x y p q = sym p.is ∙ ap is_cut_case (input.one.case p.case q.case p.size q.size p.has q.has).0 ∙ q.is
 
 -- ---- one answer to `run` and `lockstep`
 
-pub run_owes_one : (input : List ℕ) (s t : Status) → RunOwes input s → RunOwes input t → s ≡ t
+pub run_owes_one : (input : Input) (s t : Status) → RunOwes input.bytes s → RunOwes input.bytes t → s ≡ t
 run_owes_one input s t (whole_run p) (whole_run q) = refl
 run_owes_one input s t (whole_run p) (cut_run q) = absurd_bool (same_cut input false true p q)
 run_owes_one input s t (whole_run p) (no_case f q) = no_bad_line input p.case p.size f p.has q
@@ -60,7 +44,7 @@ run_owes_one input s t (cut_run p) (no_case f q) = no_bad_line input p.case p.si
 run_owes_one input s t (cut_run p) (too_big q) = too_long p.has.within q
 run_owes_one input s t (no_case f p) (whole_run q) = no_bad_line input q.case q.size f q.has p
 run_owes_one input s t (no_case f p) (cut_run q) = no_bad_line input q.case q.size f q.has p
-run_owes_one input s t (no_case f p) (no_case g q) = ap (λ (h : CaseFault). status.BadCase h) (same_fault input f g p q)
+run_owes_one input s t (no_case f p) (no_case g q) = ap (λ (h : CaseFault). status.BadCase h) (input.one.bad_case f g p q)
 run_owes_one input s t (no_case f p) (too_big q) = too_long p.within q
 run_owes_one input s t (too_big p) (whole_run q) = too_long q.has.within p
 run_owes_one input s t (too_big p) (cut_run q) = too_long q.has.within p
@@ -107,28 +91,28 @@ differs_behind : (input : List ℕ) (c d : Recording) (m n k : ℕ) → c ≡ d 
 differs_behind input c d m n k same sizes p =
     subst (λ (e : Recording). DiffersAt (drop m input) (trace_of e) k) (sym same) (subst (λ (i : ℕ). DiffersAt (drop i input) (trace_of d) k) (sym sizes) p)
 
-same_difference : (input : List ℕ) (p q : ℕ) → HasOtherTrace input p → HasOtherTrace input q → p ≡ q
+same_difference : (input : Input) (p q : ℕ) → HasOtherTrace input.bytes p → HasOtherTrace input.bytes q → p ≡ q
 same_difference input p q a b =
-    let one = same_case input a.case b.case a.size b.size a.has b.has in
-    let moved = differs_behind input a.case b.case a.size b.size b.other.behind_case one.0 one.1 b.other.differs in
-    let places = one_place (drop a.size input) (trace_of a.case) a.other.behind_case b.other.behind_case a.other.differs moved in
+    let one = input.one.case a.case b.case a.size b.size a.has b.has in
+    let moved = differs_behind input.bytes a.case b.case a.size b.size b.other.behind_case one.0 one.1 b.other.differs in
+    let places = one_place (drop a.size input.bytes) (trace_of a.case) a.other.behind_case b.other.behind_case a.other.differs moved in
     let sizes = one.1 in
     let at_a = a.other.at in
     let at_b = b.other.at in
     omega (arith, places, sizes, at_a, at_b)
 
-not_its_own : {A : Type 0} (input : List ℕ) (cut : Bool) (p : ℕ) → HasItsTrace input cut → HasOtherTrace input p → A
+not_its_own : {A : Type 0} (input : Input) (cut : Bool) (p : ℕ) → HasItsTrace input.bytes cut → HasOtherTrace input.bytes p → A
 not_its_own input cut p a b =
-    let one = same_case input a.case b.case a.size b.size a.has b.has in
-    let moved = differs_behind input a.case b.case a.size b.size b.other.behind_case one.0 one.1 b.other.differs in
+    let one = input.one.case a.case b.case a.size b.size a.has b.has in
+    let moved = differs_behind input.bytes a.case b.case a.size b.size b.other.behind_case one.0 one.1 b.other.differs in
     absurd (moved.apart (ap (λ (l : List ℕ). slice_get l b.other.behind_case) a.same))
 
-same_trace_cut : (input : List ℕ) (x y : Bool) → HasItsTrace input x → HasItsTrace input y → x ≡ y
-same_trace_cut input x y p q = sym p.is ∙ ap is_cut_case (same_case input p.case q.case p.size q.size p.has q.has).0 ∙ q.is
+same_trace_cut : (input : Input) (x y : Bool) → HasItsTrace input.bytes x → HasItsTrace input.bytes y → x ≡ y
+same_trace_cut input x y p q = sym p.is ∙ ap is_cut_case (input.one.case p.case q.case p.size q.size p.has q.has).0 ∙ q.is
 
 -- ---- one answer to `check`
 
-check_owes_one : (input : List ℕ) (s t : Status) → CheckOwes input s → CheckOwes input t → s ≡ t
+check_owes_one : (input : Input) (s t : Status) → CheckOwes input.bytes s → CheckOwes input.bytes t → s ≡ t
 check_owes_one input s t (whole_trace p) (whole_trace q) = refl
 check_owes_one input s t (whole_trace p) (cut_trace q) = absurd_bool (same_trace_cut input false true p q)
 check_owes_one input s t (whole_trace p) (other_trace n q) = not_its_own input false n p q
@@ -147,7 +131,7 @@ check_owes_one input s t (other_trace n p) (too_big_to_check q) = too_long p.has
 check_owes_one input s t (no_case_to_check f p) (whole_trace q) = no_bad_line input q.case q.size f q.has p
 check_owes_one input s t (no_case_to_check f p) (cut_trace q) = no_bad_line input q.case q.size f q.has p
 check_owes_one input s t (no_case_to_check f p) (other_trace n q) = no_bad_line input q.case q.size f q.has p
-check_owes_one input s t (no_case_to_check f p) (no_case_to_check g q) = ap (λ (h : CaseFault). status.BadCase h) (same_fault input f g p q)
+check_owes_one input s t (no_case_to_check f p) (no_case_to_check g q) = ap (λ (h : CaseFault). status.BadCase h) (input.one.bad_case f g p q)
 check_owes_one input s t (no_case_to_check f p) (too_big_to_check q) = too_long p.within q
 check_owes_one input s t (too_big_to_check p) (whole_trace q) = too_long q.has.within p
 check_owes_one input s t (too_big_to_check p) (cut_trace q) = too_long q.has.within p
@@ -180,12 +164,12 @@ answered one owed s o given =
       | inr none ↦ inr none
     ]
 
-pub lockstep_completes : (told : Option (List ℕ)) (s : Status) (old now : Option (List ℕ)) (reads read writes wrote : ℕ) → IfSome told (λ input. AnswersLockstep s input old now) → (s ≡ status.ReadFault → Rose reads read) → (s ≡ status.WriteFault → Rose writes wrote) → IfSome told (λ input. (owed : Status) → RunOwes input owed → IsCalm reads read → IsCalm writes wrote → IsAnswered owed s)
-lockstep_completes None s old now reads read writes wrote answers read_fault write_fault = tt
-lockstep_completes (Some input) s old now reads read writes wrote answers read_fault write_fault = λ owed owes calm_source calm_sink.
-    answered (run_owes_one input) owed s owes (lockstep_gives input s old now answers (λ is. calm reads read calm_source (read_fault is)) (λ is. calm writes wrote calm_sink (write_fault is)))
+pub lockstep_completes : (told : Option (List ℕ)) → IfSome told HasOneReading → (s : Status) (old now : Option (List ℕ)) (reads read writes wrote : ℕ) → IfSome told (λ input. AnswersLockstep s input old now) → (s ≡ status.ReadFault → Rose reads read) → (s ≡ status.WriteFault → Rose writes wrote) → IfSome told (λ input. (owed : Status) → RunOwes input owed → IsCalm reads read → IsCalm writes wrote → IsAnswered owed s)
+lockstep_completes None reading s old now reads read writes wrote answers read_fault write_fault = tt
+lockstep_completes (Some input) reading s old now reads read writes wrote answers read_fault write_fault = λ owed owes calm_source calm_sink.
+    answered (run_owes_one (record { bytes = input; one = reading })) owed s owes (lockstep_gives input s old now answers (λ is. calm reads read calm_source (read_fault is)) (λ is. calm writes wrote calm_sink (write_fault is)))
 
-pub check_completes : (told : Option (List ℕ)) (s : Status) (reads read writes wrote : ℕ) → IfSome told (λ input. AnswersCheck s input) → (s ≡ status.ReadFault → Rose reads read) → IfSome told (λ input. (owed : Status) → CheckOwes input owed → IsCalm reads read → IsCalm writes wrote → IsAnswered owed s)
-check_completes None s reads read writes wrote answers read_fault = tt
-check_completes (Some input) s reads read writes wrote answers read_fault = λ owed owes calm_source calm_sink.
-    answered (check_owes_one input) owed s owes (check_gives input s answers (λ is. calm reads read calm_source (read_fault is)))
+pub check_completes : (told : Option (List ℕ)) → IfSome told HasOneReading → (s : Status) (reads read writes wrote : ℕ) → IfSome told (λ input. AnswersCheck s input) → (s ≡ status.ReadFault → Rose reads read) → IfSome told (λ input. (owed : Status) → CheckOwes input owed → IsCalm reads read → IsCalm writes wrote → IsAnswered owed s)
+check_completes None reading s reads read writes wrote answers read_fault = tt
+check_completes (Some input) reading s reads read writes wrote answers read_fault = λ owed owes calm_source calm_sink.
+    answered (check_owes_one (record { bytes = input; one = reading })) owed s owes (check_gives input s answers (λ is. calm reads read calm_source (read_fault is)))

@@ -10,7 +10,7 @@ use Rattle.dn_top.specs.declared.status.Status.TheVariants as status
 use Rattle.dn_top.specs.declared.words.Schedule.{Schedule}
 use Rattle.dn_top.specs.Promises.{EndsCut, EndsWhole, HasCase, HasJournal, IsCaseRefusal, IsCutOnTheWay, AnswersRerun, AnswersShake, outcome_of, steps_of, written, shaken, journal_lines, input_limit, is_of_reading, is_of_case}
 use Rattle.dn_top.specs.Drives.{Drives, AreOneJournal, HasOneJournal, is_of_steps, is_illegal}
-use Rattle.dn_top.proofs.Completing.{same_case}
+use Rattle.dn_top.specs.Completeness.{HasOneReading}
 
 -- ---- refusals of reading
 
@@ -125,10 +125,10 @@ lines_of_one : (input : List ℕ) (c d : Recording) (m n : ℕ) (steps : List St
 lines_of_one input c d m n steps same sizes p =
     subst (λ (x : Recording). HasJournal input x m steps) (sym same) (subst (λ (k : ℕ). HasJournal input d k steps) (sym sizes) p)
 
-pub one_of_input : (input : List ℕ) (x : Recording) (k : ℕ) → HasCase input x k → AreOneJournal x.header → HasOneJournal input
-one_of_input input x k has one = λ c d m n a b p q.
-    let left = same_case input x c k m has p.has in
-    let right = same_case input x d k n has q.has in
+pub one_of_input : (input : List ℕ) → HasOneReading input → (x : Recording) (k : ℕ) → HasCase input x k → AreOneJournal x.header → HasOneJournal input
+one_of_input input reading x k has one = λ c d m n a b p q.
+    let left = reading.case x c k m has p.has in
+    let right = reading.case x d k n has q.has in
     one (journal_lines input k) a b
     (lines_of_one input x c k m a left.0 left.1 p).journal
     (lines_of_one input x d k n b right.0 right.1 q).journal

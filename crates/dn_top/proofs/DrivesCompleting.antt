@@ -1,21 +1,20 @@
 -- What an input asks of `rerun` and `shake` is one answer, and where nothing fails that is given.
-use Rattle.std.proofs.Common.{◌≡◌, ◌⊎◌, ℕ, ◌+◌, ◌<◌, true, inl, inr, List, length, Option, Some, None, refl, sym, ap, subst, ◌∙◌}
+use Rattle.std.proofs.Common.{◌≡◌, ◌⊎◌, ℕ, ◌<◌, true, inl, inr, List, length, Option, Some, None, refl, sym, ap, ◌∙◌}
 use Rattle.std.specs.Prelude.{IfSome}
 use Rattle.dn_io.specs.Streams.{Rose}
 use Rattle.dn_model.specs.Cases.{Recording}
-use Rattle.dn_case.specs.declared.cause.Cause.{Cause}
 use Rattle.dn_case.specs.declared.cause.CaseFault.{CaseFault}
 use Rattle.dn_world.specs.declared.step.Step.{Step}
 use Rattle.dn_drive.specs.declared.ended.Ended.{Ended}
 use Rattle.dn_drive.specs.declared.ended.Ended.TheVariants as ended
-use Rattle.dn_journal.proofs.JournalLaws.{one_first_bad}
 use Rattle.dn_top.specs.declared.status.Status.{Status}
 use Rattle.dn_top.specs.declared.status.Status.TheVariants as status
 use Rattle.dn_top.specs.declared.words.Schedule.{Schedule}
-use Rattle.dn_top.specs.Promises.{HasRerun, HasShaken, IsBadCase, IsBadJournal, IsBehindBad, AnswersRerun, AnswersShake, outcome_of, steps_of, journal_lines, lines_before, input_limit}
+use Rattle.dn_top.specs.Promises.{HasRerun, HasShaken, IsBadCase, IsBadJournal, AnswersRerun, AnswersShake, outcome_of, steps_of, input_limit}
 use Rattle.dn_top.specs.Drives.{HasOneJournal, is_of_steps}
-use Rattle.dn_top.specs.Completeness.{RerunOwes, whole_rerun, cut_rerun, illegal_rerun, open_rerun, no_case_to_rerun, no_journal, too_big_to_rerun, ShakeOwes, whole_shake, cut_shake, open_shake, no_case_to_shake, too_big_to_shake, IsCalm, IsAnswered}
-use Rattle.dn_top.proofs.Completing.{same_case, no_bad_line, same_fault, fault_at, too_long, calm}
+use Rattle.dn_top.specs.Completeness.{HasOneReading, RerunOwes, whole_rerun, cut_rerun, illegal_rerun, open_rerun, no_case_to_rerun, no_journal, too_big_to_rerun, ShakeOwes, whole_shake, cut_shake, open_shake, no_case_to_shake, too_big_to_shake, IsCalm, IsAnswered}
+use Rattle.dn_top.proofs.Readings.{bad_at}
+use Rattle.dn_top.proofs.Completing.{Input, no_bad_line, too_long, calm}
 
 -- the status that says this
 abbrev pub status_of : Ended → Status
@@ -52,32 +51,19 @@ owed input s (too_big_to_rerun l) = of_size l refl
 outcome_at : Recording → List Step → Ended
 outcome_at c steps = outcome_of c steps
 
-same_outcome : (input : List ℕ) (e f : Ended) → HasOneJournal input → HasRerun input e → HasRerun input f → e ≡ f
+same_outcome : (input : Input) (e f : Ended) → HasOneJournal input.bytes → HasRerun input.bytes e → HasRerun input.bytes f → e ≡ f
 same_outcome input e f one p q =
-    let same = (same_case input p.case q.case p.size q.size p.has.has q.has.has).0 in
+    let same = (input.one.case p.case q.case p.size q.size p.has.has q.has.has).0 in
     let steps = one p.case q.case p.size q.size p.steps q.steps p.has q.has in
     sym p.is ∙ ap (λ (c : Recording). outcome_of c p.steps) same ∙ ap (outcome_of q.case) steps ∙ q.is
 
-bad_at : (input : List ℕ) (c d : Recording) (m n : ℕ) (f : CaseFault) → c ≡ d → m ≡ n → IsBehindBad d.header input n f → IsBehindBad c.header input m f
-bad_at input c d m n f same sizes p =
-    subst (λ (x : Recording). IsBehindBad x.header input m f) (sym same) (subst (λ (k : ℕ). IsBehindBad d.header input k f) (sym sizes) p)
-
-no_such_journal : {A : Type 0} (input : List ℕ) (e : Ended) (f : CaseFault) → HasRerun input e → IsBadJournal input f → A
+no_such_journal : {A : Type 0} (input : Input) (e : Ended) (f : CaseFault) → HasRerun input.bytes e → IsBadJournal input.bytes f → A
 no_such_journal input e f p q =
-    let one = same_case input p.case q.case p.size q.size p.has.has q.has in
-    let bad = bad_at input p.case q.case p.size q.size f one.0 one.1 q.bad in
+    let one = input.one.case p.case q.case p.size q.size p.has.has q.has in
+    let bad = bad_at input.bytes p.case q.case p.size q.size f one.0 one.1 q.bad in
     absurd (bad.none p.steps p.has.journal)
 
-same_bad : (input : List ℕ) (f g : CaseFault) → IsBadJournal input f → IsBadJournal input g → f ≡ g
-unfolding fault_at
-same_bad input f g p q =
-    let one = same_case input p.case q.case p.size q.size p.has q.has in
-    let bad = bad_at input p.case q.case p.size q.size g one.0 one.1 q.bad in
-    let first = one_first_bad p.case.header (journal_lines input p.size) p.bad.line bad.line p.bad.first bad.first in
-    let line : f.line ≡ g.line = p.bad.at ∙ ap (λ (n : ℕ). lines_before input p.size + n) first ∙ sym bad.at in
-    ap (λ (l : ℕ). fault_at l f.cause) line ∙ ap (λ (c : Cause). fault_at g.line c) (p.bad.cause ∙ sym bad.cause)
-
-one_owed : (input : List ℕ) (s t : Status) → (is_of_steps s ≡ true → HasOneJournal input) → Owed input s → Owed input t → s ≡ t
+one_owed : (input : Input) (s t : Status) → (is_of_steps s ≡ true → HasOneJournal input.bytes) → Owed input.bytes s → Owed input.bytes t → s ≡ t
 one_owed input s t one (of_steps e p is) (of_steps f q at) =
     let steps = one (ap is_of_steps is ∙ status_of_steps e) in
     is ∙ ap status_of (same_outcome input e f steps p q) ∙ sym at
@@ -85,12 +71,12 @@ one_owed input s t one (of_steps e p is) (of_case f q at) = no_bad_line input p.
 one_owed input s t one (of_steps e p is) (of_journal f q at) = no_such_journal input e f p q
 one_owed input s t one (of_steps e p is) (of_size q at) = too_long p.has.has.within q
 one_owed input s t one (of_case f p is) (of_steps e q at) = no_bad_line input q.case q.size f q.has.has p
-one_owed input s t one (of_case f p is) (of_case g q at) = is ∙ ap (λ (h : CaseFault). status.BadCase h) (same_fault input f g p q) ∙ sym at
+one_owed input s t one (of_case f p is) (of_case g q at) = is ∙ ap (λ (h : CaseFault). status.BadCase h) (input.one.bad_case f g p q) ∙ sym at
 one_owed input s t one (of_case f p is) (of_journal g q at) = no_bad_line input q.case q.size f q.has p
 one_owed input s t one (of_case f p is) (of_size q at) = too_long p.within q
 one_owed input s t one (of_journal f p is) (of_steps e q at) = no_such_journal input e f q p
 one_owed input s t one (of_journal f p is) (of_case g q at) = no_bad_line input p.case p.size g p.has q
-one_owed input s t one (of_journal f p is) (of_journal g q at) = is ∙ ap (λ (h : CaseFault). status.BadCase h) (same_bad input f g p q) ∙ sym at
+one_owed input s t one (of_journal f p is) (of_journal g q at) = is ∙ ap (λ (h : CaseFault). status.BadCase h) (input.one.bad_journal f g p q) ∙ sym at
 one_owed input s t one (of_journal f p is) (of_size q at) = too_long p.has.within q
 one_owed input s t one (of_size p is) (of_steps e q at) = too_long q.has.has.within p
 one_owed input s t one (of_size p is) (of_case g q at) = too_long q.within p
@@ -116,11 +102,11 @@ rerun_gives input status.NoMemory old now a read write = inr refl
 rerun_gives input (status.Differs p) old now a read write = absurd a
 rerun_gives input status.Usage old now a read write = absurd a
 
-pub rerun_completes : (told : Option (List ℕ)) (s : Status) (old now : Option (List ℕ)) (reads read writes wrote : ℕ) → IfSome told (λ input. AnswersRerun s input old now) → (is_of_steps s ≡ true → IfSome told (λ input. HasOneJournal input)) → (s ≡ status.ReadFault → Rose reads read) → (s ≡ status.WriteFault → Rose writes wrote) → IfSome told (λ input. (owed : Status) → RerunOwes input owed → IsCalm reads read → IsCalm writes wrote → IsAnswered owed s)
-rerun_completes None s old now reads read writes wrote answers one read_fault write_fault = tt
-rerun_completes (Some input) s old now reads read writes wrote answers one read_fault write_fault = λ due owes calm_source calm_sink.
+pub rerun_completes : (told : Option (List ℕ)) → IfSome told HasOneReading → (s : Status) (old now : Option (List ℕ)) (reads read writes wrote : ℕ) → IfSome told (λ input. AnswersRerun s input old now) → (is_of_steps s ≡ true → IfSome told (λ input. HasOneJournal input)) → (s ≡ status.ReadFault → Rose reads read) → (s ≡ status.WriteFault → Rose writes wrote) → IfSome told (λ input. (owed : Status) → RerunOwes input owed → IsCalm reads read → IsCalm writes wrote → IsAnswered owed s)
+rerun_completes None reading s old now reads read writes wrote answers one read_fault write_fault = tt
+rerun_completes (Some input) reading s old now reads read writes wrote answers one read_fault write_fault = λ due owes calm_source calm_sink.
     elim (rerun_gives input s old now answers (λ is. calm reads read calm_source (read_fault is)) (λ is. calm writes wrote calm_sink (write_fault is))) [
-      | inl given ↦ inl (one_owed input s due one (owed input s given) (owed input due owes))
+      | inl given ↦ inl (one_owed (record { bytes = input; one = reading }) s due one (owed input s given) (owed input due owes))
       | inr none ↦ inr none
     ]
 
@@ -138,17 +124,17 @@ owed_shake w input s (open_shake p) = by_steps ended.Open p refl
 owed_shake w input s (no_case_to_shake f p) = by_case f p refl
 owed_shake w input s (too_big_to_shake l) = by_size l refl
 
-same_shaken : (w : Schedule) (input : List ℕ) (e f : Ended) → HasShaken w input e → HasShaken w input f → e ≡ f
+same_shaken : (w : Schedule) (input : Input) (e f : Ended) → HasShaken w input.bytes e → HasShaken w input.bytes f → e ≡ f
 same_shaken w input e f p q =
-    let same = (same_case input p.case q.case p.size q.size p.has q.has).0 in
+    let same = (input.one.case p.case q.case p.size q.size p.has q.has).0 in
     sym p.is ∙ ap (λ (c : Recording). outcome_of c (steps_of c w)) same ∙ q.is
 
-one_shake : (w : Schedule) (input : List ℕ) (s t : Status) → OwedShake w input s → OwedShake w input t → s ≡ t
+one_shake : (w : Schedule) (input : Input) (s t : Status) → OwedShake w input.bytes s → OwedShake w input.bytes t → s ≡ t
 one_shake w input s t (by_steps e p is) (by_steps f q at) = is ∙ ap status_of (same_shaken w input e f p q) ∙ sym at
 one_shake w input s t (by_steps e p is) (by_case f q at) = no_bad_line input p.case p.size f p.has q
 one_shake w input s t (by_steps e p is) (by_size q at) = too_long p.has.within q
 one_shake w input s t (by_case f p is) (by_steps e q at) = no_bad_line input q.case q.size f q.has p
-one_shake w input s t (by_case f p is) (by_case g q at) = is ∙ ap (λ (h : CaseFault). status.BadCase h) (same_fault input f g p q) ∙ sym at
+one_shake w input s t (by_case f p is) (by_case g q at) = is ∙ ap (λ (h : CaseFault). status.BadCase h) (input.one.bad_case f g p q) ∙ sym at
 one_shake w input s t (by_case f p is) (by_size q at) = too_long p.within q
 one_shake w input s t (by_size p is) (by_steps e q at) = too_long q.has.within p
 one_shake w input s t (by_size p is) (by_case g q at) = too_long q.within p
@@ -167,10 +153,10 @@ shake_gives w input status.NoMemory old now a read write = inr refl
 shake_gives w input (status.Differs p) old now a read write = absurd a
 shake_gives w input status.Usage old now a read write = absurd a
 
-pub shake_completes : (w : Schedule) (told : Option (List ℕ)) (s : Status) (old now : Option (List ℕ)) (reads read writes wrote : ℕ) → IfSome told (λ input. AnswersShake w s input old now) → (s ≡ status.ReadFault → Rose reads read) → (s ≡ status.WriteFault → Rose writes wrote) → IfSome told (λ input. (owed : Status) → ShakeOwes w input owed → IsCalm reads read → IsCalm writes wrote → IsAnswered owed s)
-shake_completes w None s old now reads read writes wrote answers read_fault write_fault = tt
-shake_completes w (Some input) s old now reads read writes wrote answers read_fault write_fault = λ due owes calm_source calm_sink.
+pub shake_completes : (w : Schedule) (told : Option (List ℕ)) → IfSome told HasOneReading → (s : Status) (old now : Option (List ℕ)) (reads read writes wrote : ℕ) → IfSome told (λ input. AnswersShake w s input old now) → (s ≡ status.ReadFault → Rose reads read) → (s ≡ status.WriteFault → Rose writes wrote) → IfSome told (λ input. (owed : Status) → ShakeOwes w input owed → IsCalm reads read → IsCalm writes wrote → IsAnswered owed s)
+shake_completes w None reading s old now reads read writes wrote answers read_fault write_fault = tt
+shake_completes w (Some input) reading s old now reads read writes wrote answers read_fault write_fault = λ due owes calm_source calm_sink.
     elim (shake_gives w input s old now answers (λ is. calm reads read calm_source (read_fault is)) (λ is. calm writes wrote calm_sink (write_fault is))) [
-      | inl given ↦ inl (one_shake w input s due (owed_shake w input s given) (owed_shake w input due owes))
+      | inl given ↦ inl (one_shake w (record { bytes = input; one = reading }) s due (owed_shake w input s given) (owed_shake w input due owes))
       | inr none ↦ inr none
     ]

@@ -1,5 +1,6 @@
 pub mod Networks
 pub mod Answering
+pub mod Readings
 pub mod Completing
 pub mod Showing
 pub mod Places

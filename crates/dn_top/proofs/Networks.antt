@@ -11,8 +11,7 @@ use Rattle.guest_any.specs.Openings.{opening_guest}
 use Rattle.dn_model.specs.Cases.{Heading}
 use Rattle.dn_model.specs.Network.{routers}
 use Rattle.std.proofs.Common.{Option}
-use Rattle.dn_io.specs.Streams.{behind, PutsFront}
-use Rattle.dn_io.proofs.StreamLaws.{behind-behind, PutsFront-longer, PutsFront-after}
+use Rattle.dn_io.specs.Streams.{behind}
 use Rattle.dn_model.specs.Cases.{Recording}
 use Rattle.dn_case.specs.Spelling.{case_text}
 use Rattle.dn_trace.specs.declared.stream.Ending.{Ending}
@@ -53,18 +52,17 @@ ending_tells c ending.Whole right = right
 ending_tells c ending.Cut right = right
 
 -- the recording, and then the trace
-pub both_written : (c : Recording) (old then now : Option (List ℕ)) → then ≡ behind old (case_text c) → now ≡ behind then (trace_of c) → now ≡ behind old (written c)
+pub written_is : (c : Recording) → case_text c ++ trace_of c ≡ written c
 unfolding written
-both_written c old then now first second =
-    second ∙ ap (λ (told : Option (List ℕ)). behind told (trace_of c)) first ∙ behind-behind old (case_text c) (trace_of c)
+written_is c = refl
 
-pub recording_begun : (c : Recording) (old now : Option (List ℕ)) → PutsFront old now (case_text c) → PutsFront old now (written c)
-unfolding written
-recording_begun c old now front = PutsFront-longer (trace_of c) front
+-- two texts that are put one behind the other are put as one
+abbrev pub ArePutAsOne : Type 0
+ArePutAsOne = (held : Option (List ℕ)) (one two : List ℕ) → behind (behind held one) two ≡ behind held (one ++ two)
 
-pub trace_begun : (c : Recording) (old then now : Option (List ℕ)) → then ≡ behind old (case_text c) → PutsFront then now (trace_of c) → PutsFront old now (written c)
-unfolding written
-trace_begun c old then now first front = PutsFront-after (case_text c) first front
+pub both_written : ArePutAsOne → (c : Recording) (old then now : Option (List ℕ)) → then ≡ behind old (case_text c) → now ≡ behind then (trace_of c) → now ≡ behind old (written c)
+both_written as_one c old then now first second =
+    second ∙ ap (λ (told : Option (List ℕ)). behind told (trace_of c)) first ∙ as_one old (case_text c) (trace_of c) ∙ ap (behind old) (written_is c)
 
 -- a place in what stands behind the case is within the input
 pub place_within : (input : List ℕ) (c : Recording) (size place : ℕ) → size ≤ length input → DiffersAt (drop size input) (trace_of c) place → size + place ≤ length input

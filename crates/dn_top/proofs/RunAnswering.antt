@@ -6,7 +6,7 @@ use Rattle.dn_top.specs.declared.status.Status.{Status}
 use Rattle.dn_top.specs.declared.status.Status.TheVariants as status
 use Rattle.dn_top.specs.declared.words.RunOptions.{RunOptions}
 use Rattle.dn_top.specs.Promises.{IsCaseRefusal, AnswersRun, input_limit, is_of_reading}
-use Rattle.dn_top.specs.Completeness.{RunOwes, whole_run, cut_run, no_case, too_big, IsCalm, IsAnswered}
+use Rattle.dn_top.specs.Completeness.{HasOneReading, RunOwes, whole_run, cut_run, no_case, too_big, IsCalm, IsAnswered}
 use Rattle.dn_top.proofs.Completing.{answered, calm, run_owes_one}
 
 -- ---- refusals of reading, and of the case
@@ -53,7 +53,7 @@ run_gives o input status.Usage old now a read write = absurd a
 run_gives o input (status.Illegal i) old now a read write = absurd a
 run_gives o input status.Open old now a read write = absurd a
 
-pub run_completes : (o : RunOptions) (told : Option (List ℕ)) (s : Status) (old now : Option (List ℕ)) (reads read writes wrote : ℕ) → IfSome told (λ input. AnswersRun o s input old now) → (s ≡ status.ReadFault → Rose reads read) → (s ≡ status.WriteFault → Rose writes wrote) → IfSome told (λ input. (owed : Status) → RunOwes input owed → IsCalm reads read → IsCalm writes wrote → IsAnswered owed s)
-run_completes o None s old now reads read writes wrote answers read_fault write_fault = tt
-run_completes o (Some input) s old now reads read writes wrote answers read_fault write_fault = λ owed owes calm_source calm_sink.
-    answered (run_owes_one input) owed s owes (run_gives o input s old now answers (λ is. calm reads read calm_source (read_fault is)) (λ is. calm writes wrote calm_sink (write_fault is)))
+pub run_completes : (o : RunOptions) (told : Option (List ℕ)) → IfSome told HasOneReading → (s : Status) (old now : Option (List ℕ)) (reads read writes wrote : ℕ) → IfSome told (λ input. AnswersRun o s input old now) → (s ≡ status.ReadFault → Rose reads read) → (s ≡ status.WriteFault → Rose writes wrote) → IfSome told (λ input. (owed : Status) → RunOwes input owed → IsCalm reads read → IsCalm writes wrote → IsAnswered owed s)
+run_completes o None reading s old now reads read writes wrote answers read_fault write_fault = tt
+run_completes o (Some input) reading s old now reads read writes wrote answers read_fault write_fault = λ owed owes calm_source calm_sink.
+    answered (run_owes_one (record { bytes = input; one = reading })) owed s owes (run_gives o input s old now answers (λ is. calm reads read calm_source (read_fault is)) (λ is. calm writes wrote calm_sink (write_fault is)))

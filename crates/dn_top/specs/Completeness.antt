@@ -11,6 +11,12 @@ use Rattle.dn_top.specs.declared.words.Command.{Command}
 use Rattle.dn_top.specs.declared.words.Command.TheVariants as command
 use Rattle.dn_top.specs.Promises.{HasCase, IsBadCase, HasItsTrace, HasOtherTrace, IsBadJournal, HasRerun, HasShaken, is_cut_case, input_limit}
 
+-- an input is read in one way: it has one case at most at its front, and one first bad line at most, of the case or of the journal behind it
+pub record HasOneReading (input : List ℕ) : Type 0 where
+  pub case : (c d : Recording) (m n : ℕ) → HasCase input c m → HasCase input d n → (c ≡ d) × (m ≡ n)
+  pub bad_case : (f g : CaseFault) → IsBadCase input f → IsBadCase input g → f ≡ g
+  pub bad_journal : (f g : CaseFault) → IsBadJournal input f → IsBadJournal input g → f ≡ g
+
 -- the run of the case at the front of the input is cut, or whole
 pub record HasRun (input : List ℕ) (cut : Bool) : Type 0 where
   pub case : Recording

@@ -1,10 +1,11 @@
 //! Reading the input: all of it, and the case at its front.
 
-ghost use Rattle.std.specs.Prelude.{◌≡◌, ◌<◌, ◌≤◌, [], true, length, IfOk, IfErr, IfSome, OnOk, ◌≢◌};
+ghost use Rattle.std.specs.Prelude.{◌≡◌, ◌<◌, ◌≤◌, ℕ, List, [], true, length, IfOk, IfErr, IfSome, OnOk, ◌≢◌};
 ghost use Rattle.dn_io.specs.Streams.{Rose, Gives};
 ghost use Rattle.dn_case.specs.Reading.{IsCaseFront};
 ghost use Rattle.dn_top.specs.Promises.{HasCase, input_limit, IsCaseRefusal, is_of_reading};
 ghost use Rattle.dn_top.specs.Commands.{GaveAll, Refuses};
+ghost use Rattle.dn_top.specs.Completeness.{HasOneReading};
 
 use crate::status::Status;
 use dn_case::{CaseError, read_case};
@@ -31,14 +32,25 @@ pub(crate) fn read_given<S: Source>(alloc: Global, source: &mut S) -> Result<Giv
     ensures case { IfOk result (λ given. HasCase given.input.items given.case given.size) }
     ensures within { IfOk result (λ given. given.size ≤ length given.input.items) }
     ensures all { IfOk result (λ given. GaveAll given.input.items (S.left source.old) (S.left source.new)) }
+    ensures one { IfOk result (λ given. HasOneReading given.input.items) }
     ensures refusal { IfErr result (λ status. Refuses status (S.left source.old) (S.left source.new)
         (S.faults source.old) (S.faults source.new)) }
 {
+    one_reading();
     let input = read_input(alloc, source)?;
     match first_case(alloc, input.as_slice()) {
         Ok((case, size)) => Ok(Given { input, case, size }),
         Err(status) => Err(status),
     }
+}
+
+/// Each input is read in one way.
+pub(crate) fn one_reading()
+    ensures { (input : List ℕ) → HasOneReading input }
+{
+    dn_case::a_text_has_one_case();
+    dn_case::a_text_has_one_first_bad_line();
+    dn_journal::laws::a_text_has_one_first_bad_line();
 }
 
 /// All that the source gives, at most the limit.

@@ -12,6 +12,7 @@ ghost use Rattle.dn_top.specs.Drives.{IsFabricOf, Drives, IsJournalRefusal, HasO
 
 use crate::checking::behind;
 use crate::ends::ends;
+use crate::input::one_reading;
 use crate::shown::fabric_of;
 use crate::status::Status;
 use crate::written::{Shown, write_run};
@@ -43,6 +44,7 @@ pub(crate) fn rerun_case<K: Sink>(
     ensures later { K.faults sink.old ≤ K.faults sink.new }
 {
     ends();
+    one_reading();
     match steps_behind(alloc, input, &case.header, size) {
         Ok(steps) => rerun_steps(alloc, case, steps.as_slice(), sink),
         Err(status) => status,
@@ -56,6 +58,7 @@ fn journal_place(input: &[u8], size: u64) -> u64
     ensures place { result ≡ journal_place input.now size }
     ensures within { result ≤ length input.now }
 {
+    dn_journal::laws::lines_are_the_text();
     size + split_trace(behind(input, size))
 }
 

@@ -109,6 +109,7 @@ pub(crate) fn write_driven_trace<K: Sink>(
     ensures fault { IsErrOf result WriteError.Fault → Rose (K.faults sink.old) (K.faults sink.new) }
     ensures later { K.faults sink.old ≤ K.faults sink.new }
 {
+    dn_io::laws::fronts();
     let mut ends = Bytes::new(alloc);
     let Ok(()) = push_ends(alloc, case, header.routers.as_slice(), fabric, &mut ends) else {
         return Err(WriteError::NoMemory);

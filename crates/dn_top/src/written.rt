@@ -76,6 +76,8 @@ fn write_all<K: Sink>(
     ensures fault { IsErrOf result WriteError.Fault → Rose (K.faults sink.old) (K.faults sink.new) }
     ensures later { K.faults sink.old ≤ K.faults sink.new }
 {
+    dn_io::laws::one_behind_the_other();
+    dn_io::laws::fronts();
     let ending = write_both(alloc, case, shown, sink)?;
     put_text(sink, more)?;
     Ok(ending)
@@ -95,6 +97,8 @@ fn write_both<K: Sink>(
     ensures fault { IsErrOf result WriteError.Fault → Rose (K.faults sink.old) (K.faults sink.new) }
     ensures later { K.faults sink.old ≤ K.faults sink.new }
 {
+    dn_io::laws::one_behind_the_other();
+    dn_io::laws::fronts();
     write_recording(alloc, case, sink)?;
     match shown {
         Shown::Lockstep => write_lockstep_trace(alloc, case, sink),

@@ -1,6 +1,6 @@
 //! Writing rows and states to a sink, and the trace of rows that are there.
 
-ghost use Rattle.std.specs.Prelude.{◌≡◌, ◌≤◌, ◌++◌, codes, OnOk, IsErrOf};
+ghost use Rattle.std.specs.Prelude.{◌≡◌, ◌≤◌, ◌++◌, codes, OnOk, IfErr, IsErrOf};
 ghost use Rattle.dn_io.specs.Streams.{Rose, behind, PutsFront};
 ghost use Rattle.dn_trace.specs.Rows.{row_line, row_lines, state_line};
 ghost use Rattle.dn_trace.specs.Trace.{shown_text};
@@ -25,10 +25,11 @@ pub enum WriteError {
     NoMemory,
 }
 
-/// Writes a text; at an error a front of it was written.
+/// Writes a text; at an error a front of it was written. It takes no memory.
 pub fn put_text<K: Sink>(sink: &mut K, text: &Bytes) -> Result<(), WriteError>
     ensures all { OnOk result (K.holds sink.new ≡ behind (K.holds sink.old) text.now) }
     ensures front { PutsFront (K.holds sink.old) (K.holds sink.new) text.now }
+    ensures cause { IfErr result (λ error. error ≡ WriteError.Fault) }
     ensures fault { IsErrOf result WriteError.Fault → Rose (K.faults sink.old) (K.faults sink.new) }
     ensures later { K.faults sink.old ≤ K.faults sink.new }
 {

@@ -1,16 +1,15 @@
 -- What a feeder makes of the fabric and of its seat, and how far the feed has come then.
-use Rattle.std.proofs.Common.{◌≡◌, ◌⊎◌, ℕ, zero, suc, ◌+◌, ◌-◌, ◌<◌, ◌≤◌, length, List, [], ◌∷◌, ◌++◌, map, filter, Bool, ◌&&◌, true, false, true≢false, None, Result, Ok, Err, IfOk, replicate, refl, sym, ap, ◌∙◌, subst, inl, inr, arith, append-nil, append_assoc}
-use Rattle.std.specs.Prelude.{Option, Some, slice_get, nat_le, nat_lt, if◌then◌else◌}
+use Rattle.std.proofs.Common.{◌≡◌, ℕ, zero, suc, ◌+◌, ◌-◌, ◌<◌, ◌≤◌, length, List, [], ◌∷◌, ◌++◌, map, filter, Bool, ◌&&◌, true, false, true≢false, None, Result, Ok, Err, IfOk, replicate, refl, sym, ap, ◌∙◌, subst, inl, inr, arith, append-nil, append_assoc}
+use Rattle.std.specs.Prelude.{Option, Some, slice_get, nat_le, if◌then◌else◌}
 use Rattle.std.specs.List.{AllByRecursion}
 use Rattle.std.proofs.lemmas.Bool.{lt-ltb, le-leb}
 use Rattle.std.proofs.lemmas.List.Elements.{filter-append}
 use mathlib.Core.List.{map-append}
-use Rattle.dn_guest.specs.Meaning.{Meaning}
 use Rattle.dn_guest.specs.declared.input.Input.{Input}
 use Rattle.dn_guest.specs.declared.input.Input.TheVariants.{Tick, Cmd, Down, Up, Msg}
 use Rattle.dn_model.specs.declared.event.Event.{Event}
 use Rattle.dn_model.specs.declared.feed.External.{External}
-use Rattle.dn_model.specs.Cases.{Heading, IsAsked, IsExternal, IsHeading, IsRecording, Recording}
+use Rattle.dn_model.specs.Cases.{Heading, IsAsked, IsExternal}
 use Rattle.dn_model.specs.Links.{ports_of}
 use Rattle.dn_model.specs.Network.{Network, routers}
 use Rattle.dn_model.specs.Settled.{IsPrefixOf, IsFeedOf}
@@ -22,14 +21,15 @@ use Rattle.dn_world.specs.declared.step.Step.TheVariants.{Beacon, Inject, Close,
 use Rattle.dn_world.specs.World.{Part, World, part, opening}
 use Rattle.dn_world.specs.Steps.{after, beacon, inject, deliver, handle, roll_back, is_injectable}
 use Rattle.dn_world.specs.Logs.{fed, feeds_entry, feeding, log_of, is_stopped}
-use Rattle.dn_world.specs.Runs.{run, world, injects, IsPlayable, IsLegal}
-use Rattle.dn_fabric.specs.Fabrics.{Fabric, log_in, IsNetworkOf, IsReached}
+use Rattle.dn_world.specs.Runs.{run, world, injects}
+use Rattle.dn_fabric.specs.Fabrics.{Fabric, log_in, IsReached}
 use Rattle.dn_record.specs.declared.feeder.Fed.{Fed}
 use Rattle.dn_record.specs.declared.feeder.Fed.TheVariants.{One, Closed}
 use Rattle.dn_record.specs.Feeding.{last_group, HasGiven}
 use Rattle.dn_turn.specs.Seat.{SeatView, IsSameSeat, holding, released_seat, MayPut}
 use Rattle.dn_workers.specs.Holds.{HasTaken, HasPutBack, HasGrown}
-use Rattle.dn_workers.specs.Feed.{HasFed, HasStoppedAfter, begun, closes, HasOneMore, IsFedWith, IsFedUpTo, IsDue, EndsWithClose}
+use Rattle.dn_workers.proofs.Going.{prefix_self, prefix_trans}
+use Rattle.dn_workers.specs.Feed.{HasFed, HasStoppedAfter, begun, closes, IsFedWith, IsFedUpTo, IsDue, EndsWithClose}
 
 -- ---- lists of steps
 
@@ -186,12 +186,6 @@ unfolding fed
 fed_log steps true = filter-append feeds_entry (map Did steps) (Stop ∷ []) ∙ append-nil (filter feeds_entry (map Did steps))
 fed_log steps false = ap (filter feeds_entry) (append-nil (map Did steps))
 
-prefix_self : {A : Type 0} (xs : List A) → IsPrefixOf xs xs
-prefix_self xs = ([], append-nil xs)
-
-prefix_trans : {A : Type 0} (xs ys zs : List A) → IsPrefixOf xs ys → IsPrefixOf ys zs → IsPrefixOf xs zs
-prefix_trans xs ys zs p q = (p.0 ++ q.0, sym (append_assoc xs p.0 q.0) ∙ (ap (λ w. w ++ q.0) p.1 ∙ q.1))
-
 log_more : (xs ys : List Step) (b : Bool) → log_of xs false ++ (map Did ys ++ tail b) ≡ log_of (xs ++ ys) b
 log_more xs ys b =
     ap (λ l. l ++ (map Did ys ++ tail b)) (append-nil (map Did xs)) ∙ (sym (append_assoc (map Did xs) (map Did ys) (tail b)) ∙ ap (λ l. l ++ tail b) (sym (map-append Did xs ys)))
@@ -337,14 +331,16 @@ module _ {S : Type 0} where
       let u = n.up_to in
       let beats = stamp - f.live.world.floor in
       let ys = replicate beats Beacon ++ Inject x ∷ [] in
-      let a = adds_beats beats (Inject x ∷ []) (x ∷ []) false (adds_one x) in
-      (n.goes_on, record {
-        steps = u.steps ++ ys;
-        is = steps_more f g u.steps ys (x ∷ []) beats false u.is a h.journal;
-        injected = injects_both u.steps ys ∙ (ap (λ l. l ++ injects ys) u.injected ∙ (ap (λ l. n.before ++ l) a.injects ∙ sym n.more));
-        begun = begun_both u.steps ys ∙ (let b = u.begun in let m = a.begun in let low = floor n.before u in let e = n.external.rises in let t : begun u.steps + begun ys ≡ stamp = omega (arith, b, m, low, e) in t) ∙ sym (ap (last_group 0) n.more ∙ last_is 0 n.before x);
-        unclosed = closes_both u.steps ys u.unclosed ∙ a.closes;
-      })
+      let a = adds_beats beats (Inject x ∷ []) (x ∷ []) false (adds_one x) in (
+        n.goes_on,
+        record {
+          steps = u.steps ++ ys;
+          is = steps_more f g u.steps ys (x ∷ []) beats false u.is a h.journal;
+          injected = injects_both u.steps ys ∙ (ap (λ l. l ++ injects ys) u.injected ∙ (ap (λ l. n.before ++ l) a.injects ∙ sym n.more));
+          begun = begun_both u.steps ys ∙ (let b = u.begun in let m = a.begun in let low = floor n.before u in let e = n.external.rises in let t : begun u.steps + begun ys ≡ stamp = omega (arith, b, m, low, e) in t) ∙ sym (ap (last_group 0) n.more ∙ last_is 0 n.before x);
+          unclosed = closes_both u.steps ys u.unclosed ∙ a.closes;
+        },
+      )
 
   stopped_log : (f : Fabric S) → f.live.stopped ≡ true → ((steps : List Step) (stopped : Bool) → is_stopped (log_of steps stopped) ≡ stopped) → is_stopped (log_in f) ≡ true
   stopped_log f stopped law = law f.journal f.live.stopped ∙ stopped
@@ -394,9 +390,11 @@ module _ {S : Type 0} where
   pub end_last : (f g : Fabric S) (beats last : ℕ) → HasFed f (replicate beats Beacon ++ Close ∷ []) last true g → EndsWithClose (log_in g)
   end_last f g beats last h =
       let a = adds_beats beats (Close ∷ []) [] true adds_end in
-      let front = map Did (replicate beats Beacon) in
-      (fed (log_in f) ++ front, fed_grown f g (replicate beats Beacon ++ Close ∷ []) a.fed h.journal
-      ∙ (ap (λ l. fed (log_in f) ++ l) (map-append Did (replicate beats Beacon) (Close ∷ [])) ∙ sym (append_assoc (fed (log_in f)) front (Did Close ∷ []))))
+      let front = map Did (replicate beats Beacon) in (
+        fed (log_in f) ++ front,
+        fed_grown f g (replicate beats Beacon ++ Close ∷ []) a.fed h.journal
+            ∙ (ap (λ l. fed (log_in f) ++ l) (map-append Did (replicate beats Beacon) (Close ∷ [])) ∙ sym (append_assoc (fed (log_in f)) front (Did Close ∷ []))),
+      )
 
   -- ---- the seat
 

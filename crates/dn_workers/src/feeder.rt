@@ -102,7 +102,7 @@ fn hold<G: Guest>(
     ensures put_back { HasPutBack seat.old seat.new }
     ensures fed { (given : List External) (closed : Bool) → IsDue seat.old.header seat.old.seen fed given closed →
         IsFedWith given closed seat.new.seen }
-    ensures on { IfOk result (λ round. round ≡ GoesOn → (given : List External) (closed : Bool) →
+    ensures more { IfOk result (λ round. round ≡ GoesOn → (given : List External) (closed : Bool) →
         IsDue seat.old.header seat.old.seen fed given closed → (closed ≡ false) × IsFedUpTo given seat.new.seen) }
     ensures over { IfOk result (λ round. round ≡ Over →
         (is_stopped seat.new.seen ≡ true) ⊎ ((fed ≡ Closed) × EndsWithClose seat.new.seen)) }

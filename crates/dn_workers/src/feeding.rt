@@ -34,7 +34,7 @@ pub(crate) fn pass_on<G: Guest>(fabric: &mut Fabric<G>, fed: Fed) -> Result<Roun
     ensures fed { (given : List External) (closed : Bool) →
         IsDue fabric.old.live.header (log_in fabric.old) fed given closed →
         IsFedWith given closed (log_in fabric.new) }
-    ensures on { IfOk result (λ round. round ≡ GoesOn → (given : List External) (closed : Bool) →
+    ensures more { IfOk result (λ round. round ≡ GoesOn → (given : List External) (closed : Bool) →
         IsDue fabric.old.live.header (log_in fabric.old) fed given closed →
         (closed ≡ false) × IsFedUpTo given (log_in fabric.new)) }
     ensures over { IfOk result (λ round. round ≡ Over → (fed ≡ Closed) × EndsWithClose (log_in fabric.new)) }

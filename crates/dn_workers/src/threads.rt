@@ -69,7 +69,9 @@ fn feed_all<G: Guest, F: Feeder, R: Wait>(
 {
     let _ = feed(rt, alloc, turn, seat, feeder);
 }
-/// The feeder and a worker for each seat, at once.
+
+/// The feeder and a worker for each seat, at once. `join_mut` calls its second closure on this thread, and the first one
+/// behind it if no thread can be started: so the feeder is the second one, since workers wait for it.
 fn feed_and_work<'a, G: Guest, F: Feeder + Send, Y: Gate + Sync, R: Threads + Wait + Sync>(
     rt: &'a R,
     alloc: Global,
@@ -93,6 +95,11 @@ fn feed_and_work<'a, G: Guest, F: Feeder + Send, Y: Gate + Sync, R: Threads + Wa
     join_mut(
         rt,
         &mut ||
+            requires threads { 0 < threads }
+            requires seats { All (λ seat. (seat.turn ≡ turn.now) × (seat.held ≡ None)) seats.now }
+            ensures { HaveAnswered G.meaning seats.entry.now seats.exit.now }
+        { work_all(rt, turn, threads, seats, gate) },
+        &mut ||
             requires turn { (seat.now.turn ≡ turn.now) × (seat.now.held ≡ None) × (seat.now.feeds ≡ true) }
             requires unfed { fed seat.now.seen ≡ [] }
             requires feeder { (F.header feeder.now ≡ seat.now.header) × (F.given feeder.now ≡ [])
@@ -101,18 +108,14 @@ fn feed_and_work<'a, G: Guest, F: Feeder + Send, Y: Gate + Sync, R: Threads + Wa
             ensures fed { HasFedAll (F.given feeder.exit.now) (F.closed feeder.exit.now) seat.entry.now
                 seat.exit.now }
         { feed_all(rt, alloc, turn, seat, feeder) },
-        &mut ||
-            requires threads { 0 < threads }
-            requires seats { All (λ seat. (seat.turn ≡ turn.now) × (seat.held ≡ None)) seats.now }
-            ensures { HaveAnswered G.meaning seats.entry.now seats.exit.now }
-        { work_all(rt, turn, threads, seats, gate) },
     );
 }
 
 /// Runs the fabric by a feeder and so many workers, each on a thread of its own, until the feeder has closed and
-/// nothing is left to do: all of the case was accepted, and the network is quiet and committed, or cut.
+/// nothing is left to do: all of the case was accepted, and the network is quiet and committed, or cut. Where a thread
+/// can't be started the calls run one after another, the feeder first.
 ///
-/// `NoMemory`: one of them has found no memory.
+/// `NoMemory`: one of them has found no memory, or this call has, before any of them began.
 pub fn run_threads<G: Guest, F: Feeder + Send, Y: Gate + Sync, R: Threads + Wait + Sync>(
     rt: &R,
     alloc: Global,
@@ -132,19 +135,19 @@ pub fn run_threads<G: Guest, F: Feeder + Send, Y: Gate + Sync, R: Threads + Wait
     ensures closed { OnOk result (F.closed feeder.new ≡ true) }
 {
     let (turn, mut first) = Turn::new(alloc, fabric)?;
-    let mut feeders = turn.split_seat(&mut first, true);
+    let mut feeder_seat = turn.split_seat(&mut first, true);
     let mut seats = split_all(alloc, &turn, &mut first, workers)?;
     feed_and_work(
         rt,
         alloc,
         &turn,
-        &mut feeders,
+        &mut feeder_seat,
         feeder,
         usize::from(workers),
         seats.as_mut_slice(),
         gate,
     );
-    turn.join_seat(&mut first, feeders);
+    turn.join_seat(&mut first, feeder_seat);
     join_all(&turn, &mut first, seats);
     let fabric = turn.close(first);
     laws::ended_runs::<G>();

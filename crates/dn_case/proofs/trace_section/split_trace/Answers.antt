@@ -18,3 +18,6 @@ lines-preserved c =
       same = omega (arith, more, sizes, c.lines.invariant.same, c.lines.invariant.shorter);
       shorter = omega (arith, sizes, c.lines.invariant.shorter);
     }
+
+pub returns-then-closes : goal.returns-then-closes
+returns-then-closes c = search rules

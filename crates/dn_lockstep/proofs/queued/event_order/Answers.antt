@@ -12,3 +12,6 @@ pub returns-in_default-cmp : goal.returns-in_default-cmp
 returns-in_default-cmp c =
     let same : nat_cmp c.args.one.now.key.group c.args.other.now.key.group ≡ Equal = sym c.in-Equal.ensures in
     c.cmp-in-Equal.ensures ∙ sums_decide c.args.one.now c.args.other.now same (λ tied. c.in_default-cmp.not-Equal (c.cmp-in-Equal.ensures ∙ tied))
+
+pub returns-in-Equal-cmp : goal.returns-in-Equal-cmp
+returns-in-Equal-cmp c = cc

@@ -19,9 +19,9 @@ returns-in-Ok-clause-answers g c =
 pub returns-in-Ok-clause-one : goal.returns-in-Ok-clause-one
 returns-in-Ok-clause-one g c =
     let rules : IsRecording c.args.case.now = subst (λ (x : Recording). IsRecording x) c.case.view_is c.case.invariant in
-    one_of_input c.args.input.now c.args.case.now c.args.size c.requires.has (c.ends.ensures.journal c.args.case.now.header rules.header)
+    one_of_input c.args.input.now (c.one_reading.ensures c.args.input.now) c.args.case.now c.args.size c.requires.has (c.ends.ensures.journal c.args.case.now.header rules.header)
 
 pub returns-in-Err-clause-one : goal.returns-in-Err-clause-one
 returns-in-Err-clause-one g c =
     let rules : IsRecording c.args.case.now = subst (λ (x : Recording). IsRecording x) c.case.view_is c.case.invariant in
-    one_of_input c.args.input.now c.args.case.now c.args.size c.requires.has (c.ends.ensures.journal c.args.case.now.header rules.header)
+    one_of_input c.args.input.now (c.one_reading.ensures c.args.input.now) c.args.case.now c.args.size c.requires.has (c.ends.ensures.journal c.args.case.now.header rules.header)

@@ -1,13 +1,12 @@
 use Rattle.std.proofs.Common.{List, ℕ, ◌++◌, ap, sym, ◌∙◌, subst}
 use Rattle.dn_io.specs.Streams.{behind, PutsFront}
-use Rattle.dn_io.proofs.StreamLaws.{PutsFront-none}
 use Rattle.dn_trace.specs.Trace.{end_text}
 use Rattle.dn_top.specs.Promises.{network_of, trace_of}
 use Rattle.dn_top.proofs.Showing.{trace_shown}
 use Rattle.dn_top.proofs.shown.write_driven_trace.Goals as goal
 
 pub returns-in_default-clause-front : goal.returns-in_default-clause-front
-returns-in_default-clause-front g c = PutsFront-none (g.K.Sink.holds c.args.sink.now) (trace_of c.args.case.now)
+returns-in_default-clause-front g c = c.fronts.ensures.nothing (g.K.Sink.holds c.args.sink.now) (trace_of c.args.case.now)
 
 pub returns-in_err-write_shown-clause-front : goal.returns-in_err-write_shown-clause-front
 returns-in_err-write_shown-clause-front g c =

@@ -1,4 +1,4 @@
-use Rattle.std.proofs.Common.{◌≡◌, ◌⊎◌, true, sym, ap, ◌∙◌, inl, inr, ⊎_elim}
+use Rattle.std.proofs.Common.{◌≡◌, true, sym, ap, ◌∙◌, inl, inr, ⊎_elim}
 use Rattle.dn_world.specs.Logs.{fed, is_stopped}
 use Rattle.dn_fabric.specs.Fabrics.{log_in}
 use Rattle.dn_workers.specs.Feed.{EndsWithClose}
@@ -38,7 +38,7 @@ pub loop-preserved : goal.loop-preserved
 loop-preserved g c =
     let m = g.F.Feeder in let i = c.loop.invariant in let old = c.loop.feeder in let new = c.next-in-loop.new.self in let t = c.take-fabric in
     let same = g.met.F.Feeder.comes_with_header c.args.feeder.now old i.comes ∙ (c.requires.header ∙ sym i.put_back.same.header) in
-    let on = c.in_ok-hold-in-Ok.ensures.on c.in-GoesOn.is (m.given new) (m.closed new) (due_next c.loop.seat t.new.seat (log_in t.result) (m.header old) c.in-Ok.fed (m.given old) (m.given new) (m.closed new) t.ensures.holding same i.up_to c.in-Ok.ensures.ok) in
+    let on = c.in_ok-hold-in-Ok.ensures.more c.in-GoesOn.is (m.given new) (m.closed new) (due_next c.loop.seat t.new.seat (log_in t.result) (m.header old) c.in-Ok.fed (m.given old) (m.given new) (m.closed new) t.ensures.holding same i.up_to c.in-Ok.ensures.ok) in
     record {
       comes = g.met.F.Feeder.comes_onward c.args.feeder.now old new i.comes c.next-in-loop.ensures.comes;
       runs = on.0;

@@ -21,6 +21,9 @@ returns-then-stopped-clause-fed g c =
     λ given closed due. subst (λ s. IsFedWith given closed s.seen) (sym c.put.ensures.put)
     (fed_idle f.live.header (log_in f) c.args.fed given closed stopped (due_here c.args.seat.now f c.args.fed given closed c.requires.taken c.requires.feeds due))
 
+pub returns-then-stopped-clause-more : goal.returns-then-stopped-clause-more
+returns-then-stopped-clause-more g c = λ is. absurd (cc is)
+
 pub returns-then-stopped-clause-over : goal.returns-then-stopped-clause-over
 returns-then-stopped-clause-over g c =
     let f = c.args.fabric in
@@ -42,15 +45,15 @@ returns-clause-fed g c =
     λ given closed due. subst (λ s. IsFedWith given closed s.seen) (sym c.put-2.ensures.put)
     (c.pass_on-passed.ensures.fed given closed (due_here c.args.seat.now c.args.fabric c.args.fed given closed c.requires.taken c.requires.feeds due))
 
-pub returns-clause-on : goal.returns-clause-on
-returns-clause-on g c =
+pub returns-clause-more : goal.returns-clause-more
+returns-clause-more g c =
     let v = c.args.seat.now in let f = c.args.fabric in
     if_ok
     (λ round. round ≡ GoesOn → (given : List External) (closed : Bool) → IsDue f.live.header (log_in f) c.args.fed given closed → (closed ≡ false) × IsFedUpTo given (log_in c.pass_on-passed.new.fabric))
     (λ round. round ≡ GoesOn → (given : List External) (closed : Bool) → IsDue v.header v.seen c.args.fed given closed → (closed ≡ false) × IsFedUpTo given c.put-2.new.seat.seen)
     c.pass_on-passed.result
     (λ round h is given closed due. subst (λ s. (closed ≡ false) × IsFedUpTo given s.seen) (sym c.put-2.ensures.put) (h is given closed (due_here v f c.args.fed given closed c.requires.taken c.requires.feeds due)))
-    c.pass_on-passed.ensures.on
+    c.pass_on-passed.ensures.more
 
 pub returns-clause-over : goal.returns-clause-over
 returns-clause-over g c =

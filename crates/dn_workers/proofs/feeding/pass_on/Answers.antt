@@ -1,4 +1,4 @@
-use Rattle.std.proofs.Common.{◌-◌, ap, ◌∙◌, sym, subst, arith}
+use Rattle.std.proofs.Common.{arith}
 use Rattle.dn_workers.proofs.Feeds.{injectable, next_of, grown_fed, grown_stopped, with_up_to, one_fed, one_stopped, end_fed, end_stopped, end_last}
 use Rattle.dn_workers.proofs.feeding.pass_on.Goals as goal
 
@@ -44,8 +44,8 @@ pub returns-in_ok-give-in-One-clause-fed : goal.returns-in_ok-give-in-One-clause
 returns-in_ok-give-in-One-clause-fed g c = let o = c.in-One in
     λ given closed due. with_up_to given closed _ (one_fed c.args.fabric.now c.give.new.fabric c.args.fed o.router o.input o.group given closed o.is due c.so_far.ensures.floor c.in_ok-give-in-One.ensures.ok).1
 
-pub returns-in_ok-give-in-One-clause-on : goal.returns-in_ok-give-in-One-clause-on
-returns-in_ok-give-in-One-clause-on g c = let o = c.in-One in
+pub returns-in_ok-give-in-One-clause-more : goal.returns-in_ok-give-in-One-clause-more
+returns-in_ok-give-in-One-clause-more g c = let o = c.in-One in
     λ _ given closed due. one_fed c.args.fabric.now c.give.new.fabric c.args.fed o.router o.input o.group given closed o.is due c.so_far.ensures.floor c.in_ok-give-in-One.ensures.ok
 
 pub returns-in_ok-close_at_the_end-in-Closed-clause-grown : goal.returns-in_ok-close_at_the_end-in-Closed-clause-grown

@@ -1,5 +1,4 @@
-use Rattle.std.proofs.Common.{[], refl, sym, ap, ◌∙◌, subst}
-use Rattle.dn_model.specs.Cases.{IsRecording}
+use Rattle.std.proofs.Common.{[], subst}
 use Rattle.dn_model.specs.Network.{routers}
 use Rattle.dn_model.specs.Settled.{IsFeedOf}
 use Rattle.dn_world.specs.World.{opening}

@@ -11,11 +11,11 @@ use Rattle.dn_workers.proofs.threads.run_threads.Goals as goal
 
 pub feed_and_work-requires-clause-unfed : goal.feed_and_work-requires-clause-unfed
 feed_and_work-requires-clause-unfed g c κs within =
-    ap (λ s. fed s.seen) (c.split_seat-feeders.ensures.right ∙ ap (right_seat true) c.in_ok-turn.ensures) ∙ unfed c.args.fabric c.requires.opening
+    ap (λ s. fed s.seen) (c.split_seat-feeder_seat.ensures.right ∙ ap (right_seat true) c.in_ok-turn.ensures) ∙ unfed c.args.fabric c.requires.opening
 
 pub feed_and_work-requires-clause-seats : goal.feed_and_work-requires-clause-seats
 feed_and_work-requires-clause-seats g c κs within =
-    let first = c.split_seat-feeders.new.seat in
+    let first = c.split_seat-feeder_seat.new.seat in
     let was = c.as_mut_slice.result.now in
     let new : AreNew c.args.workers first was = subst (AreNew c.args.workers first) (sym c.as_mut_slice.ensures.value) c.in_ok-seats.ensures.seats in
     let count : length was ≡ c.args.workers = c.as_mut_slice.ensures.len ∙ c.in_ok-seats.ensures.count in
@@ -24,7 +24,7 @@ feed_and_work-requires-clause-seats g c κs within =
 
 pub join_all-requires-clause-seats : goal.join_all-requires-clause-seats
 join_all-requires-clause-seats g c κs within =
-    let first = c.split_seat-feeders.new.seat in
+    let first = c.split_seat-feeder_seat.new.seat in
     let was = c.as_mut_slice.result.now in
     let now = c.feed_and_work.new.seats in
     let new : AreNew c.args.workers first was = subst (AreNew c.args.workers first) (sym c.as_mut_slice.ensures.value) c.in_ok-seats.ensures.seats in
@@ -35,10 +35,10 @@ join_all-requires-clause-seats g c κs within =
     (are_workers g.G.Guest.meaning first c.join_seat.new.into was now c.args.workers same count new c.feed_and_work.ensures.worked (search rules))
 
 -- the last seat's network is that of the seat from which the workers' seats were split off, and of the feeder's
-same_header : (g : _) (c : goal.After-journal g) → c.join_all.new.first.header ≡ c.split_seat-feeders.new.seat.header
+same_header : (g : _) (c : goal.After-journal g) → c.join_all.new.first.header ≡ c.split_seat-feeder_seat.new.seat.header
 same_header g c = search rules
 
-same_opening : (g : _) (c : goal.After-journal g) → c.join_all.new.first.opening ≡ c.split_seat-feeders.new.seat.opening
+same_opening : (g : _) (c : goal.After-journal g) → c.join_all.new.first.opening ≡ c.split_seat-feeder_seat.new.seat.opening
 same_opening g c = search rules
 
 last_has : (g : _) (c : goal.After-journal g) → HasAllOf c.join_all.new.first c.close-fabric.result
@@ -46,7 +46,7 @@ last_has g c = record { header = c.close-fabric.ensures.header.0; opening = c.cl
 
 feeder_has : (g : _) (c : goal.After-journal g) → HasAllOf c.feed_and_work.new.seat c.close-fabric.result
 feeder_has g c =
-    let feeder = c.split_seat-feeders.result in
+    let feeder = c.split_seat-feeder_seat.result in
     let same = c.feed_and_work.ensures.fed.same in
     let header : c.join_all.new.first.header ≡ feeder.header = same_header g c ∙ search rules in
     let opening : c.join_all.new.first.opening ≡ feeder.opening = same_opening g c ∙ search rules in
@@ -62,9 +62,9 @@ pub returns-clause-ok : goal.returns-clause-ok
 returns-clause-ok g c =
     let m = g.G.Guest.meaning in
     let f = c.close-fabric.result in
-    let first = c.split_seat-feeders.new.seat in
-    let feeder = c.split_seat-feeders.result in
-    let feeders = c.feed_and_work.new.seat in
+    let first = c.split_seat-feeder_seat.new.seat in
+    let feeder = c.split_seat-feeder_seat.result in
+    let after = c.feed_and_work.new.seat in
     let last = c.join_all.new.first in
     let was = c.as_mut_slice.result.now in
     let now = c.feed_and_work.new.seats in
@@ -85,8 +85,8 @@ returns-clause-ok g c =
     let given = g.F.Feeder.given c.feed_and_work.new.feeder in
     let closed = g.F.Feeder.closed c.feed_and_work.new.feeder in
     has_run m c.args.fabric f given (all.header ∙ (same_header g c ∙ search rules)) (all.opening ∙ (same_opening g c ∙ search rules)) all.running (λ net is. c.journal.ensures.reached net is all.running)
-    (l.given f given closed feeder feeders has fed_all fed_by) (l.accepted net f r) (l.closed net f given closed feeder feeders r has fed_all fed_by)
+    (l.given f given closed feeder after has fed_all fed_by) (l.accepted net f r) (l.closed net f given closed feeder after r has fed_all fed_by)
     (l.over m net f worker.0 c.journal.ensures.rules is r worker.1 worker.2)
 
 pub returns-clause-closed : goal.returns-clause-closed
-returns-clause-closed g c = c.ended_runs.ensures.feeder c.close-fabric.result (g.F.Feeder.given c.feed_and_work.new.feeder) (g.F.Feeder.closed c.feed_and_work.new.feeder) c.split_seat-feeders.result c.feed_and_work.new.seat (feeder_has g c) c.feed_and_work.ensures.fed
+returns-clause-closed g c = c.ended_runs.ensures.feeder c.close-fabric.result (g.F.Feeder.given c.feed_and_work.new.feeder) (g.F.Feeder.closed c.feed_and_work.new.feeder) c.split_seat-feeder_seat.result c.feed_and_work.new.seat (feeder_has g c) c.feed_and_work.ensures.fed

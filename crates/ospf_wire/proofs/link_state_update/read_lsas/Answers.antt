@@ -1,4 +1,4 @@
-use Rattle.std.proofs.Common.{◌≡◌, ℕ, [], ◌∷◌, ◌++◌, drop, Some, None, sym, ap, ◌∙◌}
+use Rattle.std.proofs.Common.{◌≡◌, ℕ, [], ◌∷◌, ◌++◌, drop, Some, None, sym, ap, ◌∙◌, rules}
 use Rattle.ospf_wire.specs.Reading.{lsa_at, lsas_at}
 use Rattle.ospf_wire.proofs.LsaLaws.{lsas_more, lsas_none}
 use Rattle.ospf_wire.proofs.link_state_update.read_lsas.Goals as goal
@@ -19,3 +19,7 @@ returns-in_default c =
     let rest = c.loop-place.rest.now in
     let missing : None ≡ lsa_at rest = sym c.in_default.is ∙ c.in_ok-lsa.ensures.found in
     lsas_none c.loop-place.lsas.items c.args.count c.loop-place.place rest (lsas_at c.args.count c.args.bytes.now) c.loop-place-test.true missing c.loop-place.invariant
+
+pub returns : goal.returns
+unfolding lsas_at
+returns c = search rules

@@ -1,3 +1,4 @@
+use Rattle.std.proofs.lemmas.Grind.{common_steps}
 use Rattle.std.proofs.Common.{◌≡◌, ◌+◌, ◌<◌, Bool, Some, List, [], ◌++◌, length, take, drop, refl, sym, ap, ◌∙◌, subst, arith}
 use Rattle.std.proofs.lemmas.Bool.{both_ways}
 use Rattle.dn_guest.specs.declared.node.Node.{Node}
@@ -82,3 +83,9 @@ returns-in-Ok-clause-moved g c =
           (subst (λ (s : Bool). StandsIn net feed (record { header = c.self.inside.header; nodes = new; waiting = waits; place = c.self.inside.place + 1; last = Some event; spent = s })) (sym c.if-self.false) on),
       ap (λ (r : Running g.row.G.Denot). r.place + 1) c.self.view_is,
     )
+
+pub invariant_of-self-in-Err : goal.invariant_of-self-in-Err
+invariant_of-self-in-Err g c = grind (arith, common_steps)
+
+pub returns-in-Err-clause-spent : goal.returns-in-Err-clause-spent
+returns-in-Err-clause-spent g c = refl

@@ -4,10 +4,14 @@ use Rattle.dn_model.specs.declared.event.Event.{Event}
 use Rattle.dn_model.specs.Order.{is_below}
 use Rattle.dn_model.specs.Settled.{below}
 use Rattle.dn_world.specs.Runs.{IsPast}
+use Rattle.dn_guest.specs.declared.node.Node.{Node}
+use Rattle.dn_ckpt.specs.Shelves.{kept_from}
+use Rattle.dn_router.specs.Replays.{nodes_over}
 use Rattle.dn_router.specs.Sound.{IsSound}
 use Rattle.dn_router.proofs.Fresh.{fresh_is}
-use Rattle.dn_router.proofs.Rising.{fewer_below, count_is}
-use Rattle.dn_router.proofs.Sound.{beside, sound_committed}
+use Rattle.dn_router.proofs.Rising.{below_short, fewer_below, count_is}
+use Rattle.dn_router.proofs.Replays.{has_is, trimmed}
+use Rattle.dn_router.proofs.Sound.{beside, done_reached, sound_committed}
 use Rattle.dn_router.proofs.router.Router.commit_below.Goals as goal
 
 pub between-fresh-requires-clause-start : goal.between-fresh-requires-clause-start
@@ -20,6 +24,16 @@ between-fresh-requires-clause-start g c =
     let before = c.self.invariant.committed in
     omega (arith, count, fewer, before)
 
+pub trim-requires-after_bounds : goal.trim-requires-after_bounds
+trim-requires-after_bounds g c κs within =
+    let done = c.self.inside.done.items in
+    let key = c.args.key.now in
+    let count = count_is key c.as_slice.result.now done c.count_below-count.result c.as_slice.ensures.value c.count_below-count.ensures.within c.count_below-count.ensures.front in
+    let rising : IsPast c.self.inside.bound key = subst (λ b. IsPast b key) (sym (ap (λ s. s.bound) c.self.view_is)) c.requires.rising in
+    let fewer = fewer_below c.self.inside.bound key done rising in
+    let before = c.self.invariant.committed in
+    has_is g.G.Guest.meaning c.self.inside.opening done c.self.inside.committed c.count_below-count.result c.self.inside.shelf (omega (arith, count, fewer, before)) (done_reached c.self.invariant) c.self.invariant.kept
+
 pub invariant_of-self : goal.invariant_of-self
 invariant_of-self g c =
     let m = g.G.Guest.meaning in
@@ -30,7 +44,16 @@ invariant_of-self g c =
     let waiting : AllByRecursion (λ e. IsPast key e.key) (p.todo ++ p.voids) =
     subst (λ (l : List Event). AllByRecursion (λ e. IsPast key e.key) l) (sym (ap (λ s. s.part.todo ++ s.part.voids) c.self.view_is)) c.requires.waiting in
     let sound = sound_committed m c.self.inside.number c.self.inside.timing.period c.self.inside.opening p c.self.inside.shelf c.self.inside.wrong c.self.inside.committed c.self.inside.bound key c.self.invariant waiting in
-    subst (λ (k : ℕ). IsSound m c.self.inside.number c.self.inside.timing.period c.self.inside.opening p c.self.inside.shelf c.self.inside.wrong k key) count sound
+    let rising : IsPast c.self.inside.bound key = subst (λ b. IsPast b key) (sym (ap (λ s. s.bound) c.self.view_is)) c.requires.rising in
+    let fewer = fewer_below c.self.inside.bound key done rising in
+    let short = below_short key done in
+    let before = c.self.invariant.committed in
+    let nodes = nodes_over m 0 c.self.inside.opening done in
+    let shelf : c.trim.new.self ≡ kept_from c.count_below-count.result nodes =
+    trimmed m c.self.inside.opening done c.self.inside.committed c.count_below-count.result c.self.inside.shelf c.trim.new.self
+    (omega (arith, count, fewer, before)) (omega (arith, count, short)) c.self.invariant.kept c.trim.ensures in
+    let on_count = subst (λ (k : ℕ). IsSound m c.self.inside.number c.self.inside.timing.period c.self.inside.opening p (kept_from k nodes) c.self.inside.wrong k key) count sound in
+    subst (λ (l : List (ℕ × Node g.row.G.Denot)). IsSound m c.self.inside.number c.self.inside.timing.period c.self.inside.opening p l c.self.inside.wrong c.count_below-count.result key) (sym shelf) on_count
 
 pub returns-clause-fresh : goal.returns-clause-fresh
 returns-clause-fresh g c =

@@ -4,14 +4,15 @@ use Rattle.dn_model.specs.declared.event.Event.{Event}
 use Rattle.dn_model.specs.declared.link.End.{End}
 use Rattle.dn_model.specs.Network.{emitted_by}
 use Rattle.dn_world.specs.World.{Part, is_ready}
-use Rattle.dn_ckpt.specs.Shelves.{with_kept}
+use Rattle.dn_ckpt.specs.Shelves.{kept_from, with_kept}
 use Rattle.dn_router.specs.Replays.{node_over, last_sent, nodes_over}
 use Rattle.dn_router.specs.Routers.{node_of, emits_next}
 use Rattle.dn_router.specs.Sound.{IsSound}
 use Rattle.dn_router.proofs.Marks.{ready_waits, first_waits, ready_not_behind}
+use Rattle.dn_router.proofs.Kept.{with_from}
 use Rattle.dn_router.proofs.Replays.{kept_more}
 use Rattle.dn_router.proofs.Ordering.{handled_is, emits_is, node_is, first_rest}
-use Rattle.dn_router.proofs.Sound.{beside, seen, sound_handled}
+use Rattle.dn_router.proofs.Sound.{beside, seen, done_reached, sound_handled}
 use Rattle.dn_router.proofs.router.Router.handle.Goals as goal
 
 pub unreachable-requires : goal.unreachable-requires
@@ -35,11 +36,14 @@ invariant_of-self-2 g c =
     let part : beside c.move_least.new.done.items c.move_least.new.queue ≡ record p { done = grown; todo = drop 1 q.todo } = handled_is done q c.move_least.new.queue c.move_least.new.done.items e first c.move_least.ensures.queue kept_done in
     let node : c.args.node ≡ node_over m o grown = node_is m o done q.todo e c.args.node first (c.requires.node ∙ sym (ap (λ s. node_over m (node_of m s) (take 1 s.part.todo)) c.self.view_is)) in
     let place : c.len.result + 1 ≡ suc (0 + length done) = (let a = c.len.ensures in let b = c.reserve.new.self.ok.0 in let d = ap length c.in_ok-reserve.ensures.items in omega (arith, a, b, d)) in
-    let shelf : c.keep.new.self ≡ nodes_over m 0 o grown =
+    let committed = c.self.inside.committed in
+    let reached = done_reached c.self.invariant in
+    let shelf : c.keep.new.self ≡ kept_from committed (nodes_over m 0 o grown) =
     c.in_ok-keep.ensures.ok
     ∙ (λ i. with_kept (c.self.invariant.kept i) (c.len.result + 1) (node i))
-    ∙ kept_more m 0 o done e (c.len.result + 1) place in
-    let on_part = subst (λ (x : Part). IsSound m c.self.inside.number c.self.inside.timing.period o x (nodes_over m 0 o grown) c.self.inside.wrong c.self.inside.committed c.self.inside.bound) (sym part) sound in
+    ∙ with_from committed (c.len.result + 1) (node_over m o grown) (nodes_over m 0 o done) (omega (arith, reached, place))
+    ∙ ap (kept_from committed) (kept_more m 0 o done e (c.len.result + 1) place) in
+    let on_part = subst (λ (x : Part). IsSound m c.self.inside.number c.self.inside.timing.period o x (kept_from committed (nodes_over m 0 o grown)) c.self.inside.wrong c.self.inside.committed c.self.inside.bound) (sym part) sound in
     subst (λ (k : List (ℕ × Node g.row.G.Denot)). IsSound m c.self.inside.number c.self.inside.timing.period o (beside c.move_least.new.done.items c.move_least.new.queue) k c.self.inside.wrong c.self.inside.committed c.self.inside.bound) (sym shelf) on_part
 
 pub returns-clause-events : goal.returns-clause-events

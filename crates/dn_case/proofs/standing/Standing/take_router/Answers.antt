@@ -1,0 +1,9 @@
+use Rattle.std.proofs.Common.{arith}
+use Rattle.std.proofs.lemmas.Grind.{common_steps}
+use Rattle.dn_case.proofs.standing.Standing.take_router.Goals as goal
+
+pub returns-clause-read : goal.returns-clause-read
+returns-clause-read c = grind arith
+
+pub returns-clause-few : goal.returns-clause-few
+returns-clause-few c = grind (arith, common_steps)
