@@ -1,11 +1,14 @@
 -- What `run` answers, from its parts; and where nothing fails, that is what its input asks for.
-use Rattle.std.proofs.Common.{◌≡◌, ◌⊎◌, ℕ, ◌<◌, true, inl, inr, List, length, Option, Some, None, refl}
+use Rattle.std.proofs.Common.{◌≡◌, ◌⊎◌, ℕ, ◌<◌, Bool, true, false, inl, inr, List, length, Option, Some, None, refl, subst}
 use Rattle.std.specs.Prelude.{IfSome}
 use Rattle.dn_io.specs.Streams.{Rose}
+use Rattle.dn_model.specs.Cases.{Recording}
+use Rattle.dn_world.specs.declared.step.Step.{Step}
 use Rattle.dn_top.specs.declared.status.Status.{Status}
 use Rattle.dn_top.specs.declared.status.Status.TheVariants as status
 use Rattle.dn_top.specs.declared.words.RunOptions.{RunOptions}
-use Rattle.dn_top.specs.Promises.{IsCaseRefusal, AnswersRun, input_limit, is_of_reading}
+use Rattle.dn_top.specs.Promises.{HasCase, IsCaseRefusal, IsCaseRun, AnswersRun, is_cut_case, run_text, input_limit, is_of_reading}
+use Rattle.dn_top.specs.Drives.{Writes}
 use Rattle.dn_top.specs.Completeness.{HasOneReading, RunOwes, whole_run, cut_run, no_case, too_big, IsCalm, IsAnswered}
 use Rattle.dn_top.proofs.Completing.{answered, calm, run_owes_one}
 
@@ -37,6 +40,24 @@ case_refused_run o input (status.Differs p) told refused = absurd refused
 case_refused_run o input status.Usage told refused = absurd refused
 case_refused_run o input (status.Illegal i) told refused = absurd refused
 case_refused_run o input status.Open told refused = absurd refused
+
+-- ---- the text of a run
+
+as_cut : (c : Recording) (cut : Bool) (steps : List Step) → is_cut_case c ≡ cut → IsCaseRun c (is_cut_case c) steps → IsCaseRun c cut steps
+as_cut c cut steps is run = subst (λ (b : Bool). IsCaseRun c b steps) is run
+
+pub case_run : (o : RunOptions) (input : List ℕ) (c : Recording) (size : ℕ) (steps : List Step) (s : Status) (old now : Option (List ℕ)) → HasCase input c size → IsCaseRun c (is_cut_case c) steps → Writes c (run_text o.journal c steps) s old now → AnswersRun o s input old now
+case_run o input c size steps status.Ok old now has run writes = record { case = c; size = size; steps = steps; has = has; run = as_cut c false steps writes.0 run; text = writes.1 }
+case_run o input c size steps status.Cut old now has run writes = record { case = c; size = size; steps = steps; has = has; run = as_cut c true steps writes.0 run; text = writes.1 }
+case_run o input c size steps (status.BadCase f) old now has run writes = absurd writes
+case_run o input c size steps status.TooBig old now has run writes = absurd writes
+case_run o input c size steps status.ReadFault old now has run writes = absurd writes
+case_run o input c size steps status.WriteFault old now has run writes = record { case = c; size = size; steps = steps; has = has; run = run; front = writes }
+case_run o input c size steps status.NoMemory old now has run writes = inr (record { case = c; size = size; steps = steps; has = has; run = run; front = writes })
+case_run o input c size steps (status.Differs p) old now has run writes = absurd writes
+case_run o input c size steps status.Usage old now has run writes = absurd writes
+case_run o input c size steps (status.Illegal i) old now has run writes = absurd writes
+case_run o input c size steps status.Open old now has run writes = absurd writes
 
 -- ---- what is answered is what is owed, or a failure
 
