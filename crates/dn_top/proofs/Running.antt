@@ -1,18 +1,16 @@
 -- A fabric that has ended shows the run of its case, and its steps are such a run.
 use Rattle.std.proofs.Common.{◌≡◌, Bool, true, false, inl, inr, List, [], refl, sym, ap, subst, ◌∙◌, append-nil}
 use Rattle.dn_model.specs.declared.feed.External.{External}
-use Rattle.dn_model.specs.Cases.{Heading, Recording}
+use Rattle.dn_model.specs.Cases.{Recording}
 use Rattle.dn_model.specs.Settled.{is_cut, lockstep, shown_rows}
 use Rattle.dn_world.specs.World.{World, horizon, is_quiet}
 use Rattle.dn_world.specs.Runs.{Continues, IsLegalOf, committed, injects, is_cut_off, world}
-use Rattle.dn_fabric.specs.Fabrics.{Fabric, IsNetworkOf, IsReached}
+use Rattle.dn_fabric.specs.Fabrics.{Fabric, IsReached}
 use Rattle.dn_fabric.specs.Promises.{IsAtRest}
-use Rattle.dn_workers.specs.Runs.{HasRun}
 use Rattle.dn_drive.specs.declared.ended.Ended.TheVariants as ended
 use Rattle.guest_any.specs.declared.any.AnyGuest.{AnyGuest}
-use Rattle.guest_any.specs.Any.{any}
 use Rattle.dn_top.specs.Promises.{IsCaseRun, is_cut_case, network_of, outcome_of}
-use Rattle.dn_top.specs.Drives.{HasEnded, IsFabricOf, ShowsCase}
+use Rattle.dn_top.specs.Drives.{HasEnded, ShowsCase}
 
 absurd_bool : {A : Type 0} → false ≡ true → A
 absurd_bool is = cc
@@ -76,27 +74,15 @@ module _ (c : Recording) (f : Fabric AnyGuest) (e : HasEnded c f) (r : IsReached
       elim e.over [
         | inl p ↦ absurd_bool (sym cut ∙ p.1)
         | inr p ↦
-          let quiet : is_quiet (reached c f) ≡ true = ap is_quiet r.world ∙ p.0 in
-          let boundary : (reached c f).boundary ≡ horizon c.header (reached c f) = ap (λ (w : World). w.boundary) r.world ∙ header_is p.1 ∙ ap (λ (w : World). horizon c.header w) (sym r.world) in
-          record {
-            is = sym shown.cut ∙ cut;
-            comes = to_whole (cut_there false cut) quiet boundary;
-            ends = record { legal = legal all; all = all; quiet = quiet; committed = boundary };
-            rows = rows_there shown;
-          }
+            let quiet : is_quiet (reached c f) ≡ true = ap is_quiet r.world ∙ p.0 in
+            let boundary : (reached c f).boundary ≡ horizon c.header (reached c f) = ap (λ (w : World). w.boundary) r.world ∙ header_is p.1 ∙ ap (λ (w : World). horizon c.header w) (sym r.world) in
+            record {
+              is = sym shown.cut ∙ cut;
+              comes = to_whole (cut_there false cut) quiet boundary;
+              ends = record { legal = legal all; all = all; quiet = quiet; committed = boundary };
+              rows = rows_there shown;
+            }
       ]
 
   pub is_run : ShowsCase c f → injects f.journal ≡ c.feed → (is_cut_off (network_of c.header) (reached c f) ≡ true → outcome_of c f.journal ≡ ended.Cut) → (is_cut_off (network_of c.header) (reached c f) ≡ false → is_quiet (reached c f) ≡ true → (reached c f).boundary ≡ horizon c.header (reached c f) → outcome_of c f.journal ≡ ended.Whole) → IsCaseRun c (is_cut_case c) f.journal
   is_run shown all to_cut to_whole = subst (λ (b : Bool). IsCaseRun c b f.journal) shown.cut (as_cut f.live.cut refl shown all to_cut to_whole)
-
--- a run of all of the case's feed ends
-pub has_ended : (c : Recording) (before now : Fabric AnyGuest) (given : List External) → IsFabricOf c before → HasRun any before given now → given ≡ c.feed → HasEnded c now
-has_ended c before now given of ran all = record {
-  of = record {
-    header = ran.header ∙ of.header;
-    network = subst (λ (h : Heading). IsNetworkOf (network_of c.header) any h now.live.openings) (sym ran.header) (subst (λ (states : List AnyGuest). IsNetworkOf (network_of c.header) any before.live.header states) (sym ran.openings) of.network);
-  };
-  running = ran.running;
-  accepted = ran.accepted ∙ all;
-  over = ran.over;
-}

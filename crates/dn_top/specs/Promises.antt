@@ -242,15 +242,15 @@ end_of_run false = ended.Whole
 end_of_run true = ended.Cut
 
 -- and how they end
-abbrev pub EndsAs : (cut : Bool) → Recording → List Step → Type 0
-EndsAs false = EndsWhole
-EndsAs true = EndsCut
+abbrev pub EndsRun : (cut : Bool) → Recording → List Step → Type 0
+EndsRun false = EndsWhole
+EndsRun true = EndsCut
 
 -- the steps are a run of the case, which is cut or whole: `rerun` comes to that end by them, they end so, and just the rows that the trace shows are committed
 pub record IsCaseRun (c : Recording) (cut : Bool) (steps : List Step) : Type 0 where
   pub is : is_cut_case c ≡ cut
   pub comes : outcome_of c steps ≡ end_of_run cut
-  pub ends : EndsAs cut c steps
+  pub ends : EndsRun cut c steps
   pub rows : committed (network_of c.header) (world (network_of c.header) steps) ≡ shown_rows (network_of c.header) c.feed
 
 -- what `run` writes: with `--journal` the journal of the steps that the threads took stands behind the trace

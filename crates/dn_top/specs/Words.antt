@@ -38,10 +38,10 @@ scheduled None steps = None
 -- both numbers are decimals below 2^64
 abbrev pub shake_of : List (List ℕ) → Option Command
 shake_of [] = None
-shake_of (number ∷ []) = None
-shake_of (number ∷ option ∷ []) = None
-shake_of (number ∷ option ∷ steps ∷ []) = if is option (codes "--steps") then scheduled (decimal_of number) (decimal_of steps) else None
-shake_of (number ∷ option ∷ steps ∷ other ∷ more) = None
+shake_of (a ∷ []) = None
+shake_of (a ∷ b ∷ []) = None
+shake_of (a ∷ b ∷ c ∷ []) = if is b (codes "--steps") then scheduled (decimal_of a) (decimal_of c) else None
+shake_of (a ∷ b ∷ c ∷ d ∷ more) = None
 
 -- ---- all commands
 

@@ -57,7 +57,7 @@ mod top;
 mod words;
 mod written;
 
+pub use dn_workers::{Gate, OpenGate};
 pub use status::{Status, status_line, status_number};
 pub use top::{defined_plain, defined_top};
 pub use words::{Command, RunOptions, Schedule, command_of};
-pub use dn_workers::{Gate, OpenGate};

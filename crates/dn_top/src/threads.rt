@@ -51,8 +51,12 @@ pub(crate) fn run_case<K: Sink, Y: Gate + Sync, R: Threads + Wait + Sync>(
 
 /// The feeder of the case, which has given nothing yet.
 fn feed_of(alloc: Global, case: &Case) -> Result<ListFeed, NoMemory>
-    ensures { IfOk result (λ feeder. feeder ≡ record { header = case.now.header; feed = case.now.feed; place = 0;
-        closed = false }) }
+    ensures { IfOk result (λ feeder. feeder ≡ record {
+      header = case.now.header;
+      feed = case.now.feed;
+      place = 0;
+      closed = false;
+    }) }
 {
     let header = case.header.copy(alloc)?;
     let feed = case.feed.copy(alloc)?;

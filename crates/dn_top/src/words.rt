@@ -1,9 +1,10 @@
 //! The words of a command.
 
-ghost use Rattle.std.specs.Prelude.{◌≡◌, ◌≤◌, Some, None, map};
+ghost use Rattle.std.specs.Prelude.{◌≡◌, ◌≤◌, Some, None, codes, map};
 ghost use Rattle.std.specs.String.{string_bytes};
 ghost use Rattle.dn_top.specs.declared.words.RunOptions.{RunOptions};
-ghost use Rattle.dn_top.specs.Words.{plain_command, command_of, run_by, run_of, shake_of, scheduled, plain_of};
+ghost use Rattle.dn_text.specs.Decimals.{decimal_of};
+ghost use Rattle.dn_top.specs.Words.{is, plain_command, command_of, run_by, run_of, shake_of, scheduled, plain_of};
 
 use dn_text::decimal;
 
@@ -111,18 +112,33 @@ fn run_of(options: &[String]) -> Option<Command>
 {
     match options {
         [] => run_by(Some(USUAL_WORKERS), false),
-        [journal] if journal.as_str() == "--journal" => run_by(Some(USUAL_WORKERS), true),
-        [workers, number] if workers.as_str() == "--workers" => {
-            run_by(decimal(number.as_str().as_bytes()), false)
-        }
-        [workers, number, journal] if workers.as_str() == "--workers" && journal.as_str() == "--journal" => {
-            run_by(decimal(number.as_str().as_bytes()), true)
-        }
-        [journal, workers, number] if journal.as_str() == "--journal" && workers.as_str() == "--workers" => {
-            run_by(decimal(number.as_str().as_bytes()), true)
-        }
+        [a] if is_journal(a) => run_by(Some(USUAL_WORKERS), true),
+        [a, b] if is_workers(a) => run_by(number(b), false),
+        [a, b, c] if is_workers(a) && is_journal(c) => run_by(number(b), true),
+        [a, b, c] if is_journal(a) && is_workers(b) => run_by(number(c), true),
         _ => None,
     }
+}
+
+/// Whether the word is `--workers`.
+fn is_workers(word: &String) -> bool
+    ensures { result ≡ is (string_bytes word.now) (codes "--workers") }
+{
+    word.as_str() == "--workers"
+}
+
+/// Whether the word is `--journal`.
+fn is_journal(word: &String) -> bool
+    ensures { result ≡ is (string_bytes word.now) (codes "--journal") }
+{
+    word.as_str() == "--journal"
+}
+
+/// The number that the word is a decimal of; None where it is none below 2^64.
+fn number(word: &String) -> Option<u64>
+    ensures { result ≡ decimal_of (string_bytes word.now) }
+{
+    decimal(word.as_str().as_bytes())
 }
 
 /// `run` with 1 to 16 workers.
@@ -142,23 +158,21 @@ fn run_by(workers: Option<u64>, journal: bool) -> Option<Command>
     }
 }
 
-/// The command of the words `shake NUMBER --steps M`.
+/// `shake` with the number and the option behind it.
 fn shake_of(more: &[String]) -> Option<Command>
     ensures { result ≡ shake_of (map string_bytes more.now) }
 {
     match more {
-        [number, option, steps] => {
-            if option.as_str() == "--steps" {
-                scheduled(
-                    decimal(number.as_str().as_bytes()),
-                    decimal(steps.as_str().as_bytes()),
-                )
-            } else {
-                None
-            }
-        }
+        [a, b, c] if is_steps(b) => scheduled(number(a), number(c)),
         _ => None,
     }
+}
+
+/// Whether the word is `--steps`.
+fn is_steps(word: &String) -> bool
+    ensures { result ≡ is (string_bytes word.now) (codes "--steps") }
+{
+    word.as_str() == "--steps"
 }
 
 /// `shake` by this number, of 1 to 1,000,000 steps.
