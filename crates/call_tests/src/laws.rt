@@ -39,5 +39,6 @@ fn the_laws_hold_of_flooding_routers() {
     dn_drive::laws::open_steps::<Flood>();
     dn_drive::laws::cut_runs::<Flood>();
     dn_drive::laws::schedules_are_taken::<Flood>();
+    dn_drive::laws::legal_runs_are_taken::<Flood>();
     dn_drive::laws::only_a_commit_cuts::<Flood>();
 }
