@@ -25,8 +25,8 @@ from .tool import TOP, BadInput
 CAUSES = "|".join((*TABLE, "journal"))
 OTHERS = "open|usage|cut|too big|read fault|write fault|no memory"
 LINE = re.compile(r"(?:defined: )?(?:line (\d+): (%s)|illegal step (\d+)|differs at (\d+)|(%s))\s*" % (CAUSES, OTHERS))
-COMMANDS = """defined run < CASE                           handles the case; writes the recording and the trace
-defined lockstep < CASE                      the same
+COMMANDS = """defined lockstep < CASE                      handles the case; writes the recording and the trace
+defined run [--workers N] [--journal] < CASE the same on N threads (1 to 16), with their journal if asked
 defined check < CASE-AND-TRACE               is the trace the case's?
 defined rerun < CASE-AND-JOURNAL             takes the journal's steps
 defined shake NUMBER --steps M < CASE        takes steps drawn from NUMBER, at most M (1 to 1,000,000)"""
@@ -312,7 +312,7 @@ def right_trace(text: bytes, case: Case) -> tuple[bytes, str]:
     """The trace of a case, and who says so: the built program, or the model if there is none."""
     path = os.environ.get("PROGRAM", os.path.join(TOP, "crates", "defined", "out", "defined"))
     if os.access(path, os.X_OK):
-        done = subprocess.run([path, "run"], input=text, capture_output=True, check=False)
+        done = subprocess.run([path, "lockstep"], input=text, capture_output=True, check=False)
         if done.returncode in (0, 4):
             return done.stdout[len(casetext.write_case(case)):], "by the program"
     return trace.trace_text(case)[0], "by the model"
