@@ -37,6 +37,7 @@ fn run<Y: Gate + Sync, R: Threads + Wait + Sync>(
 }
 
 /// Router 0's first call and router 1's first call behind its first event wait for each other.
+#[derive(Drop)]
 struct Meeting {
     of_the_first: AtomicU64,
     of_the_second: AtomicU64,
@@ -80,6 +81,7 @@ fn workers_handle_what_has_come(rt: HostRuntime) -> Result<(), NoMemory> {
 }
 
 /// The first four calls wait for one another, and then stay on for a while.
+#[derive(Drop)]
 struct Crowd {
     entered: AtomicU64,
     inside: AtomicU64,
