@@ -6,7 +6,7 @@
 //!
 //! | File | What it tests |
 //! |---|---|
-//! | `gates.rt` | a rollback that must happen on two workers; four calls in the gate at once, and never five |
+//! | `gates.rt` | two calls that wait for each other, one of them past the horizon; four calls in the gate at once, and never five |
 //! | `waiting.rt` | a bounded wait for other threads |
 #![tactic(auto)]
 
