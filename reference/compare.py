@@ -8,7 +8,7 @@ import sys
 
 sys.dont_write_bytecode = True
 
-from comparison import Comparison, Different  # noqa: E402
+from comparison import Comparison, Different, missing_commands  # noqa: E402
 from parts import DEFAULT, PARTS  # noqa: E402
 
 ROOT = os.path.dirname(os.path.dirname(os.path.abspath(__file__)))
@@ -28,9 +28,12 @@ def arguments():
     return chosen
 
 
-def run_part(name, number, count, path):
-    """Compares the inputs of a part."""
-    part, comparison = PARTS[name], Comparison(path, name)
+def run_part(name, number, count, path, missing):
+    """Compares the inputs of a part, where the program has its command."""
+    part, comparison = PARTS[name], Comparison(path, name, missing)
+    if name in missing:
+        print("%s: not in the program yet" % name, flush=True)
+        return
     rng = random.Random("%s %d" % (name, number))
     for first in part.FIRST:
         first(rng, comparison)
@@ -47,9 +50,10 @@ def main():
     if not os.access(path, os.X_OK):
         print("no program at " + path, file=sys.stderr)
         return 2
+    missing = missing_commands(path)
     try:
         for name in chosen.parts or DEFAULT:
-            run_part(name, chosen.number, chosen.count, path)
+            run_part(name, chosen.number, chosen.count, path, missing)
     except Different as difference:
         print(difference)
         return 1

@@ -1,8 +1,7 @@
 #!/usr/bin/env python3
 """Plays tables of turns (tests/guest_turns/README.md) with the model's guests, and compares: tables.py FILE..
 
-Every line under a turn is the model's, but those of `show`, which the model doesn't have: they are taken from the
-table.
+Every line under a turn is the model's.
 """
 
 import sys
@@ -79,7 +78,7 @@ class Table:
         self.routers, self.at = {}, None
 
     def line(self, line):
-        """What happens at a line; None for the lines of a show, which the model doesn't have."""
+        """What happens at a line."""
         word, *fields = line.split(" ")
         if word in ("router", "fork"):
             made = Router(self.at.guest.fork(), self.at.mask) if word == "fork" else Router(guest_of(fields[1], fields[2:]))
@@ -96,7 +95,7 @@ class Table:
         elif word == "image":
             return ["= " + self.at.guest.image().hex()]
         elif word == "show":
-            return None
+            return ["| " + line.decode() for line in self.at.guest.show()]
         else:
             return self.at.turn(input_of(word, fields))
         return []
@@ -104,18 +103,12 @@ class Table:
 
 def played(text):
     """The table with what happens at each line."""
-    table, lines, is_shown = Table(), [], False
+    table, lines = Table(), []
     for line in text.splitlines():
         if line[:1] in ("", "#"):
             lines.append(line)
-        elif line[0] in ">=|":
-            if is_shown and line[0] == "|":
-                lines.append(line)
-        else:
-            lines.append(line)
-            outcome = table.line(line)
-            is_shown = outcome is None
-            lines += outcome or []
+        elif line[0] not in ">=|":
+            lines += [line, *table.line(line)]
     return "\n".join(lines) + "\n"
 
 

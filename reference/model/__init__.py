@@ -17,5 +17,10 @@ One file a topic:
 * `journal`   journal text both ways
 * `world`     a world and its steps
 * `replay`    `rerun` of a journal and the schedule of `shake`
+* `lines`     an input that is read line by line
+* `live`      live lines and their stamps
+* `commands`  how the debugger's commands are spelled, and what a break matches
+* `probes`    the probes of the debugger
+* `debugger`  a session and its transcript
 * `program`   words, statuses, standard output and standard error
 """

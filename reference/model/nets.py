@@ -22,3 +22,8 @@ def has_host_bits(address, length):
 def net_text(address, length):
     """`A.B.C.D/LEN`."""
     return b"%d.%d.%d.%d/%d" % (*address.to_bytes(4, "big"), length)
+
+
+def route_line(network, cost, ways):
+    """The line of a show for the route to (address, length); `ways` are words."""
+    return b"route %s %d via %s" % (net_text(*network), cost, b" ".join(ways))

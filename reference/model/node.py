@@ -15,7 +15,8 @@ class Node:
     """A guest, the mask of the ports that are up, and the count of what was sent.
 
     A guest has `step(mask, entry)`, which changes it and gives the outputs as
-    (port, body); `fork()`, an equal guest that changes by itself; and `image()`.
+    (port, body); `fork()`, an equal guest that changes by itself; `image()`; and
+    `show()`, the lines that it shows.
     """
 
     def __init__(self, guest, port_count):

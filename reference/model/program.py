@@ -2,10 +2,10 @@
 
 from dataclasses import dataclass
 
-from . import casetext, journal, replay, trace
+from . import casetext, debugger, journal, live, replay, trace
+from .lines import INPUT_LIMIT, Lines
 from .numbers import U64_MAX, decimal
 
-INPUT_LIMIT = 16_777_216
 MAX_STEPS = 1_000_000
 MAX_WORKERS = 16
 
@@ -42,26 +42,28 @@ class Answer:
 
 
 def run_of(options):
-    """("run", whether a journal is asked for, None) of the words behind `run`, or None."""
-    left, wants_journal, workers = list(options), False, None
+    """("run" or "live", whether a journal is asked for, None) of the words behind `run`, or None."""
+    left, wants_journal, is_live, workers = list(options), False, False, None
     while left:
         option = left.pop(0)
         if option == b"--journal" and not wants_journal:
             wants_journal = True
+        elif option == b"--live" and not is_live:
+            is_live = True
         elif option == b"--workers" and workers is None and left:
             workers = decimal(left.pop(0))
             if workers is None or not 1 <= workers <= MAX_WORKERS:
                 return None
         else:
             return None
-    return ("run", wants_journal, None)
+    return ("live" if is_live else "run", wants_journal, None)
 
 
 def plain(words):
     """(command, number, steps) of words that are a command, or None."""
     if words[:1] == [b"run"]:
         return run_of(words[1:])
-    if len(words) == 1 and words[0] in (b"lockstep", b"check", b"rerun"):
+    if len(words) == 1 and words[0] in (b"lockstep", b"check", b"rerun", b"debug"):
         return (words[0].decode(), None, None)
     if len(words) == 4 and words[0] == b"shake" and words[2] == b"--steps":
         number, steps = decimal(words[1]), decimal(words[3])
@@ -78,14 +80,21 @@ def bad_line(line, cause):
     return Answer("badcase", "%d: %s" % (line, cause))
 
 
-def answer(words, text):
-    """What the program answers to these words and this input."""
+def answer(words, text, beats=(), missing=()):
+    """What the program answers to these words and this input.
+
+    `beats` are those of a live feed, and `missing` the commands that the program doesn't have yet.
+    """
     asked = plain(words)
-    if asked is None:
+    if asked is None or asked[0] in missing:
         return Answer("usage")
-    if len(text) > INPUT_LIMIT:
-        return Answer("toobig")
     try:
+        if asked[0] == "live":
+            return run_live(Lines(text), beats, asked[1])
+        if asked[0] == "debug":
+            return debugged(Lines(text))
+        if len(text) > INPUT_LIMIT:
+            return Answer("toobig")
         case, length = casetext.read_case(text)
     except casetext.Fault as fault:
         return bad_line(fault.line, fault.cause)
@@ -106,6 +115,33 @@ def written(case):
     """Recording and trace, at Ok or Cut."""
     section, cut = trace.trace_text(case)
     return Answer("cut" if cut else "ok", out=casetext.write_case(case) + section)
+
+
+def run_live(lines, beats, wants_journal):
+    """The answer of `run --live`; raises the fault of a header."""
+    front = lines.gathered(b"feed")
+    if front is None:
+        return Answer("toobig")
+    case, refusal = live.read_header(front), None
+    try:
+        if live.read_feed(case, lines, beats):
+            refusal = Answer("toobig")
+    except casetext.Fault as fault:
+        refusal = bad_line(fault.line, fault.cause)
+    whole = written(case)
+    if refusal is not None:
+        whole.status, whole.detail = refusal.status, refusal.detail
+    whole.case = case if wants_journal else None
+    return whole
+
+
+def debugged(lines):
+    """The answer of `debug`; raises the fault of a case."""
+    text = lines.gathered(b"end")
+    if text is None:
+        return Answer("toobig")
+    out, is_too_big = debugger.transcript(casetext.read_case(text)[0], lines)
+    return Answer("toobig" if is_too_big else "ok", out=out)
 
 
 def checked(case, rest, start):

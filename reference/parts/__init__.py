@@ -4,8 +4,8 @@ Each has `COUNT`, how many inputs it compares at least; `FIRST`, what it
 compares once; and `PIECES`, of which it draws the rest.
 """
 
-from . import checks, limits, protocols, replays, schedules, texts, threads, words
+from . import checks, debug, limits, live, protocols, replays, schedules, texts, threads, words
 
 PARTS = {"texts": texts, "checks": checks, "replays": replays, "schedules": schedules, "threads": threads,
-         "words": words, "protocols": protocols, "limits": limits}
+         "words": words, "protocols": protocols, "live": live, "debug": debug, "limits": limits}
 DEFAULT = tuple(name for name in PARTS if name != "limits")

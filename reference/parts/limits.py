@@ -60,6 +60,40 @@ def sizes(_, comparison):
         comparison.compare([b"run"], joined(LEAST + [b"@0 r0 cmd " + body]))
 
 
+def live(_, comparison):
+    """Live feeds of more rows than a run has, and inputs of just the greatest size and one more, cut at each place."""
+    if "live" in comparison.missing:
+        return
+    words, front = [b"run", b"--live"], joined(LEAST)
+    for lines in ([b"r5 cmd 41"], [b"r5 cmd 41", b"r5 down 0"]):
+        comparison.compare(words, joined(WIDE[:2] + [b"groups 3125"] + WIDE[3:] + lines))
+    for size in (MOST_INPUT - 1, MOST_INPUT, MOST_INPUT + 1, MOST_INPUT + 2):
+        for text in (b"defined 1\n", LEAST[0], front, front + b"r0 cmd 41\n", front + b"r0 cmd 41\nend\n",
+                     front + b"r0 cmd ", front + b"r1 cmd 41\n"):
+            comparison.compare(words, text + b"4" * (size - len(text)))
+            comparison.compare(words, text + b"4" * (size - len(text) - 1) + b"\n")
+            comparison.compare(words, text + b"4" * (size - len(text) - 2) + b"\n4")
+
+
+def debug(_, comparison):
+    """Sessions at the limit of rows, and inputs of just the greatest size and one more, cut at each place."""
+    if "debug" in comparison.missing:
+        return
+    words, case = [b"debug"], joined(LEAST + [b"end"])
+    for externals in (0, 1, 2):
+        text = joined(WIDE + [b"@3124 r5 cmd 41"] * externals + [b"end"])
+        for lines in ([b"run", b"run", b"until 3125", b"step", b"last", b"where"],
+                      [b"until 3124", b"step 64", b"until 3124", b"until 3125", b"step 3", b"run", b"show r5"],
+                      [b"break at 3124 0", b"until 3124", b"step 200000", b"until 3124", b"queue r5"]):
+            comparison.compare(words, text + joined(lines))
+    for size in (MOST_INPUT - 1, MOST_INPUT, MOST_INPUT + 1, MOST_INPUT + 2):
+        for text in (b"defined 1\n", LEAST[0], case, case + b"step\n", case + b"step\nquit\n", case + b"trace\n",
+                     case + b"trace\nend trace ", case + b"break body "):
+            comparison.compare(words, text + b"4" * (size - len(text)))
+            comparison.compare(words, text + b"4" * (size - len(text) - 1) + b"\n")
+            comparison.compare(words, text + b"4" * (size - len(text) - 2) + b"\n4")
+
+
 COUNT = 0
-FIRST = (rows, messages, bodies, sizes)
+FIRST = (rows, messages, bodies, sizes, live, debug)
 PIECES = (sizes,)

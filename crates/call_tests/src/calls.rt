@@ -14,12 +14,17 @@ use std::alloc::{AllocError, Global};
 pub(crate) const SMALLEST: &[u8] =
     b"defined 1\nperiod 1\ngroups 1\nseed 0\nrouter a flood\nfeed\nend\n";
 
-/// The smallest case.
-pub(crate) fn smallest(alloc: Global) -> Result<Case, NoMemory> {
-    match read_case(alloc, SMALLEST) {
+/// The case of a text.
+pub(crate) fn case_of(alloc: Global, text: &[u8]) -> Result<Case, NoMemory> {
+    match read_case(alloc, text) {
         Ok((case, _length)) => Ok(case),
         Err(_) => Err(AllocError),
     }
+}
+
+/// The smallest case.
+pub(crate) fn smallest(alloc: Global) -> Result<Case, NoMemory> {
+    case_of(alloc, SMALLEST)
 }
 
 /// A node that has sent so many messages.

@@ -2,10 +2,9 @@
 
 ghost use Rattle.std.specs.Prelude.{◌≡◌, ◌+◌, IfOk, length};
 
-use dn_guest::Bytes;
 use ospf_flood::{Lists, NoMemory, Verdict, receive};
 use ospf_lsdb::Lsdb;
-use ospf_wire::{Lsa, LsaHeader, fletcher_set};
+use ospf_wire::{Lsa, LsaBody, LsaHeader, fletcher_set};
 use rip_table::Table;
 use std::alloc::Global;
 
@@ -23,7 +22,7 @@ fn lsa(alloc: Global, router: u32) -> Result<Lsa, NoMemory>
         sum: 0,
         length: 24,
     };
-    let body = Bytes::from_slice(alloc, &[0, 0, 0, 0])?;
+    let body = LsaBody::from_slice(alloc, &[0, 0, 0, 0])?;
     let mut lsa = Lsa { head, body };
     fletcher_set(&mut lsa);
     Ok(lsa)

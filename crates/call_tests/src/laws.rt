@@ -11,6 +11,7 @@ fn the_laws_hold_of_flooding_routers() {
     dn_model::laws::rows_below_a_key::<Flood>();
     dn_model::laws::rows_one_by_one::<Flood>();
     dn_model::laws::messages_were_sent::<Flood>();
+    dn_model::laws::same_families::<Flood>();
     dn_world::laws::playable_cases::<Flood>();
     dn_world::laws::before_the_first_step::<Flood>();
     dn_world::laws::equation::<Flood>();

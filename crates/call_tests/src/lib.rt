@@ -9,8 +9,11 @@
 //! |---|---|
 //! | `calls.rt` | calls of the model, of one router, of its kept nodes, of lists and tables |
 //! | `commands.rt` | `defined_plain` on a source and a sink that fail at a numbered call or move single bytes |
+//! | `commands_of_debug.rt` | lines of the debugger that are commands, and lines that are none |
 //! | `full.rt` | a full link-state database, a full RIP routing table |
 //! | `laws.rt` | each law of networks at the flooding guest |
+//! | `live.rt` | lines of a source in pieces and at its faults, beats of a clock, live lines |
+//! | `probes.rt` | the probes, on tables of small shows |
 //! | `streams.rt` | the words of errors, and what may go to another thread |
 //! | `traces.rt` | single rows and states, rows that come in pieces |
 //!
@@ -23,9 +26,15 @@ mod calls;
 #[cfg(test)]
 mod commands;
 #[cfg(test)]
+mod commands_of_debug;
+#[cfg(test)]
 mod full;
 #[cfg(test)]
 mod laws;
+#[cfg(test)]
+mod live;
+#[cfg(test)]
+mod probes;
 #[cfg(test)]
 mod streams;
 #[cfg(test)]

@@ -23,6 +23,7 @@ use Rattle.dn_case.specs.Spelling.{IsSmall, IsWithin, spelled, asked_by, externa
 use Rattle.dn_case.specs.Takings.{with_external}
 use Rattle.dn_case.specs.Reading.{case_of}
 use Rattle.dn_case.specs.Externals.{IsExternalLine}
+use Rattle.dn_case.specs.LiveLines.{behind_header}
 use Rattle.dn_case.proofs.ReadLines.{with_newline, read_spelled}
 use Rattle.dn_case.proofs.RouterLaws.{numbered}
 use Rattle.dn_case.proofs.RoundTrip.{ports_few, read_again, external_free, external_is, external_spellable}
@@ -181,10 +182,6 @@ other_shape shape.Feed other _ _ _ e = absurd cc
 other_shape shape.End other _ _ _ e = absurd cc
 
 -- ---- one external
-
--- the lines of the header have been read
-abbrev behind_header : Heading → Standing
-behind_header h = record { place = place.Feed; period = h.period; groups = h.groups; seed = h.seed; routers = h.routers; links = h.links; feed = [] }
 
 taken_so : (h : Heading) (x : ExternalDef) → IsHeading h → IsExternal h 0 x → after (behind_header h) (external_line h.routers x) ≡ with_external (behind_header h) x
 taken_so h x k is = external_is place.Feed (behind_header h) [] x k is

@@ -15,6 +15,7 @@ pub mod Fields
 pub mod Spelled
 pub mod RoundTrip
 pub mod ExternalLines
+pub mod LiveLaws
 pub mod Interleavings
 pub mod PrefixLeads
 pub mod CaseAgain

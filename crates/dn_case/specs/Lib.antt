@@ -5,5 +5,6 @@ pub mod Takings
 pub mod Reading
 pub mod TraceSections
 pub mod Externals
+pub mod LiveLines
 pub mod Orders
 pub mod CaseTexts

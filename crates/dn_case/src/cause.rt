@@ -3,6 +3,7 @@
 ghost use Rattle.std.specs.Prelude.{◌≡◌};
 ghost use Rattle.dn_case.specs.declared.cause.CaseError.TheVariants.{NoMemory as Short};
 ghost use Rattle.dn_case.specs.declared.cause.LineError.TheVariants.{NoMemory as Memory};
+ghost use Rattle.dn_case.specs.declared.cause.LiveError.TheVariants.{NoMemory as LiveMemory};
 
 use std::alloc::AllocError;
 use thiserror::Error;
@@ -61,6 +62,25 @@ impl From<AllocError> for CaseError {
 
     fn from(_error: AllocError) -> CaseError {
         CaseError::NoMemory
+    }
+}
+
+/// Why a live line gives no input.
+#[derive(Debug, Drop, Error)]
+pub enum LiveError {
+    /// The line is bad.
+    #[error("{0:?}")]
+    Bad(Cause),
+    /// There was no memory for the input.
+    #[error("out of memory")]
+    NoMemory,
+}
+
+impl From<AllocError> for LiveError {
+    ghost from_gives = { λ _ e. e ≡ LiveMemory };
+
+    fn from(_error: AllocError) -> LiveError {
+        LiveError::NoMemory
     }
 }
 

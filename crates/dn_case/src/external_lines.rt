@@ -53,7 +53,7 @@ impl Standing {
         if value(group) < u64::from(last_group(self.feed.as_slice())) {
             return Err(LineError::Bad(Cause::Order));
         }
-        if lacks_port(self.links.ports_of(i), asked) {
+        if lacks_port(u64::from(self.links.ports_of(i)), asked) {
             return Err(LineError::Bad(Cause::Port));
         }
         Ok(External {
@@ -74,7 +74,8 @@ fn last_group(feed: &[External]) -> u32
     }
 }
 
-fn ask_fits(asked: Asked<'_>) -> bool
+/// Whether what is asked is in range.
+pub fn ask_fits(asked: Asked<'_>) -> bool
     ensures { result ≡ ask_fits (ask asked.entry) }
 {
     match asked {
@@ -84,17 +85,19 @@ fn ask_fits(asked: Asked<'_>) -> bool
     }
 }
 
-fn lacks_port(ports: u8, asked: Asked<'_>) -> bool
+/// Whether a port is asked that isn't one of so many ports.
+pub fn lacks_port(ports: u64, asked: Asked<'_>) -> bool
     ensures { result ≡ lacks_port ports (ask asked.entry) }
 {
     match asked {
         Asked::Cmd(_) => false,
-        Asked::Down(port) => u64::from(ports) <= value(port),
-        Asked::Up(port) => u64::from(ports) <= value(port),
+        Asked::Down(port) => ports <= value(port),
+        Asked::Up(port) => ports <= value(port),
     }
 }
 
-fn input_of(alloc: Global, asked: Asked<'_>) -> Result<Input, NoMemory>
+/// The input of what is asked.
+pub fn input_of(alloc: Global, asked: Asked<'_>) -> Result<Input, NoMemory>
     requires { IsTrue (ask_fits (ask asked)) }
     ensures { IfOk result (λ input. input ≡ input_of (ask asked.entry)) }
 {

@@ -47,7 +47,8 @@ fn is_word(text: &[u8], word: &[u8]) -> bool
     text == word
 }
 
-fn name_of(text: &[u8]) -> Option<&[u8]>
+/// The text, if it is a name.
+pub fn name_of(text: &[u8]) -> Option<&[u8]>
     ensures read { option_copied result ≡ name_of text.now }
     ensures named { IfSome result (λ name. IsTrue (is_name name.now)) }
 {
@@ -163,8 +164,9 @@ fn group_of(word: &[u8]) -> Option<Number>
     }
 }
 
+/// What the last two fields of an external line ask.
 #[tactic(auto, unfolding(crate::specs::Shapes::ask_of))]
-fn ask_of<'a>(word: &'a [u8], field: &'a [u8]) -> Option<Asked<'a>>
+pub fn ask_of<'a>(word: &'a [u8], field: &'a [u8]) -> Option<Asked<'a>>
     ensures { option_map ask result ≡ ask_of word.now field.now }
 {
     if is_word(word, b"cmd") {

@@ -124,6 +124,13 @@ module _ {S : Type 0} where
       let up = subst Ascends is (pairs_filter (λ x y. x.0 < y.0) (λ x. nat_le x.0 place) es (ascend es s)) in
       sym (base_last place others e all up) ∙ ap (base_place place) (sym is) ∙ base_kept place es
 
+  -- where there is a base, some entry isn't past the place
+  pub none_up_to : (place : ℕ) (es range : Kept S) → range ≡ entries_between nat_cmp Unbounded (Included place) es → range ≡ [] → 0 < length (kept_up_to place es) → ⊥
+  none_up_to place es range b r h =
+      let is : kept_up_to place es ≡ [] = sym (between_is place es) ∙ sym b ∙ r in
+      let none = ap length is in
+      omega (arith, none, h)
+
   -- ---- the least place
 
   pub has_base : (place at : ℕ) (es : Kept S) (node : Node S) → slice_get es 0 ≡ Some (at, node) → at ≤ place → 0 < length (kept_up_to place es)

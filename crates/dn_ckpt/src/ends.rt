@@ -4,11 +4,12 @@ ghost use Rattle.std.specs.Prelude.{ℕ, ◌≡◌, ◌<◌, true, false, List, 
 ghost use Rattle.dn_guest.specs.declared.node.Node.{Node};
 ghost use Rattle.dn_ckpt.specs.Shelves.{kept_from, kept_up_to};
 
-use dn_guest::{Guest, Node};
+use crate::shared::SharedNode;
+use dn_guest::Guest;
 use std::collections::BTreeMap;
 
 /// Drops the nodes past the place.
-pub(crate) fn drop_past<G: Guest>(kept: &mut BTreeMap<u64, Node<G>>, place: u64)
+pub(crate) fn drop_past<G: Guest>(kept: &mut BTreeMap<u64, SharedNode<G>>, place: u64)
     ensures { kept.new.entries ≡ kept_up_to place kept.old.entries }
 {
     while is_last_past(kept, place) {
@@ -17,7 +18,7 @@ pub(crate) fn drop_past<G: Guest>(kept: &mut BTreeMap<u64, Node<G>>, place: u64)
 }
 
 /// Drops the nodes before the place.
-pub(crate) fn drop_before<G: Guest>(kept: &mut BTreeMap<u64, Node<G>>, place: u64)
+pub(crate) fn drop_before<G: Guest>(kept: &mut BTreeMap<u64, SharedNode<G>>, place: u64)
     ensures { kept.new.entries ≡ kept_from place kept.old.entries }
 {
     while is_first_before(kept, place) {
@@ -26,7 +27,7 @@ pub(crate) fn drop_before<G: Guest>(kept: &mut BTreeMap<u64, Node<G>>, place: u6
 }
 
 /// Whether the last kept place is past this one.
-fn is_last_past<G: Guest>(kept: &BTreeMap<u64, Node<G>>, place: u64) -> bool
+fn is_last_past<G: Guest>(kept: &BTreeMap<u64, SharedNode<G>>, place: u64) -> bool
     ensures more { result ≡ true → 0 < length kept.now.entries }
     ensures past { result ≡ true → (entry : ℕ × Node G) (others : List (ℕ × Node G)) →
         kept.now.entries ≡ others ++ entry ∷ [] → place < entry.0 }
@@ -39,7 +40,7 @@ fn is_last_past<G: Guest>(kept: &BTreeMap<u64, Node<G>>, place: u64) -> bool
 }
 
 /// Whether the first kept place is before this one.
-fn is_first_before<G: Guest>(kept: &BTreeMap<u64, Node<G>>, place: u64) -> bool
+fn is_first_before<G: Guest>(kept: &BTreeMap<u64, SharedNode<G>>, place: u64) -> bool
     ensures more { result ≡ true → 0 < length kept.now.entries }
     ensures before { result ≡ true → (entry : ℕ × Node G) (others : List (ℕ × Node G)) →
         kept.now.entries ≡ entry ∷ others → entry.0 < place }

@@ -5,6 +5,7 @@ ghost use Rattle.std.specs.Map.{keys_of};
 ghost use Rattle.dn_ckpt.specs.Shelves.{HasBase, base_place, kept_at, kept_from, kept_up_to, with_kept};
 
 use crate::ends::{drop_before, drop_past};
+use crate::shared::SharedNode;
 use dn_guest::{Guest, NoMemory, Node};
 use std::alloc::Global;
 use std::collections::BTreeMap;
@@ -13,7 +14,8 @@ use std::marker::Model;
 /// The nodes that are kept, each at a place: the number of events that led to it.
 #[derive(Drop)]
 pub struct Shelf<G: Guest> {
-    kept: BTreeMap<u64, Node<G>>,
+    alloc: Global,
+    kept: BTreeMap<u64, SharedNode<G>>,
 }
 
 impl<G: Guest> Model for Shelf<G> {
@@ -33,8 +35,9 @@ impl<G: Guest> Shelf<G> {
         ensures { IfOk result (λ made. made ≡ (0, opening) ∷ []) }
     {
         let mut kept = BTreeMap::new(alloc);
+        let opening = SharedNode::new(alloc, opening)?;
         kept.insert(0, opening)?;
-        Ok(Shelf { kept })
+        Ok(Shelf { alloc, kept })
     }
 
     /// The least kept place. Each place from it on has a base.
@@ -55,6 +58,27 @@ impl<G: Guest> Shelf<G> {
         ensures place { result.0 ≡ base_place place self.now }
         ensures node { kept_at self.now result.0 ≡ Some result.1.now }
     {
+        let (at, shared) = self.entry_for(place);
+        (at, shared.node())
+    }
+
+    /// The same place and node, where the node gets another owner. The caller knows that the place isn't before
+    /// the least kept place. `NoMemory`: the node has as many owners as can be counted.
+    pub fn shared_base_for(&self, place: u64) -> Result<(u64, SharedNode<G>), NoMemory>
+        requires { HasBase place self.now }
+        ensures place { IfOk result (λ base. base.0 ≡ base_place place self.now) }
+        ensures node { IfOk result (λ base. kept_at self.now base.0 ≡ Some base.1) }
+    {
+        let (at, shared) = self.entry_for(place);
+        Ok((at, shared.share()?))
+    }
+
+    /// That place, and its node as it is kept.
+    fn entry_for(&self, place: u64) -> (u64, &SharedNode<G>)
+        requires { HasBase place self.now }
+        ensures place { result.0 ≡ base_place place self.now }
+        ensures node { kept_at self.now result.0 ≡ Some result.1.now }
+    {
         match self.kept.range(..=place).next_back() {
             Some((at, node)) => (*at, node),
             None => unreachable!(),
@@ -66,6 +90,7 @@ impl<G: Guest> Shelf<G> {
         ensures ok { OnOk result (self.new ≡ with_kept self.old place node) }
         ensures err { OnErr result (self.new ≡ self.old) }
     {
+        let node = SharedNode::new(self.alloc, node)?;
         self.kept.insert(place, node)?;
         Ok(())
     }

@@ -13,7 +13,7 @@ use Rattle.dn_world.specs.declared.step.Step.TheVariants.{Beacon, Inject, Close,
 use Rattle.dn_world.specs.World.{World, part, is_ready, is_behind}
 use Rattle.dn_world.specs.Steps.{is_injectable, is_enabled}
 use Rattle.dn_drive.specs.Allowed.{is_next, is_allowed_here, is_allowed}
-use Rattle.dn_drive.proofs.Going.{same_external}
+use Rattle.dn_drive.proofs.Going.{InputsApart, same_external}
 
 and_true : (a : Bool) → a ≡ (a && true)
 and_true true = refl
@@ -40,21 +40,21 @@ injectable h r (Down port) a = lt-ltb port (ports_of h.links r) a
 injectable h r (Up port) a = lt-ltb port (ports_of h.links r) a
 injectable h r (Msg port body) a = absurd a
 
-next_is_taken : (h : Heading) (floor : ℕ) (xs : List External) (x : External) → AreExternals h floor xs → is_next xs x ≡ true → (nat_lt x.router (length h.routers) ≡ true) × (is_injectable h x.router x.input ≡ true)
-next_is_taken h floor [] x a e = absurd (cc)
-next_is_taken h floor (y ∷ ys) x a e =
-    let same : y ≡ x = same_external y x e in
+next_is_taken : InputsApart → (h : Heading) (floor : ℕ) (xs : List External) (x : External) → AreExternals h floor xs → is_next xs x ≡ true → (nat_lt x.router (length h.routers) ≡ true) × (is_injectable h x.router x.input ≡ true)
+next_is_taken apart h floor [] x a e = absurd (cc)
+next_is_taken apart h floor (y ∷ ys) x a e =
+    let same : y ≡ x = same_external apart y x e in
     subst (λ (z : External). (nat_lt z.router (length h.routers) ≡ true) × (is_injectable h z.router z.input ≡ true)) same
     (lt-ltb y.router (length h.routers) a.0.router, injectable h y.router y.input a.0.asked)
 
-pub allowed_is : {S : Type 0} (net : Network S) (w : World) (xs : List External) (s : Step) → AreExternals net.header w.floor xs → is_allowed_here net.header w xs s ≡ is_allowed net w xs s
+pub allowed_is : {S : Type 0} → InputsApart → (net : Network S) (w : World) (xs : List External) (s : Step) → AreExternals net.header w.floor xs → is_allowed_here net.header w xs s ≡ is_allowed net w xs s
 unfolding is_allowed is_enabled routers
-allowed_is net w xs Beacon a = refl
-allowed_is net w xs (Inject x) a =
+allowed_is apart net w xs Beacon a = refl
+allowed_is apart net w xs (Inject x) a =
     left_out (not w.closed && (x.group == w.floor)) (nat_lt x.router (length net.header.routers)) (is_injectable net.header x.router x.input) (is_next xs x)
-    (next_is_taken net.header w.floor xs x a)
-allowed_is net w xs Close a = refl
-allowed_is net w xs (Deliver place) a = and_true (nat_lt place (length w.flight))
-allowed_is net w xs (Handle r) a = and_true (nat_lt r (length net.header.routers) && is_ready (part w r))
-allowed_is net w xs (RollBack r) a = and_true (nat_lt r (length net.header.routers) && is_behind (part w r))
-allowed_is net w xs Commit a = refl
+    (next_is_taken apart net.header w.floor xs x a)
+allowed_is apart net w xs Close a = refl
+allowed_is apart net w xs (Deliver place) a = and_true (nat_lt place (length w.flight))
+allowed_is apart net w xs (Handle r) a = and_true (nat_lt r (length net.header.routers) && is_ready (part w r))
+allowed_is apart net w xs (RollBack r) a = and_true (nat_lt r (length net.header.routers) && is_behind (part w r))
+allowed_is apart net w xs Commit a = refl

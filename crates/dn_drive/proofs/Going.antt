@@ -1,15 +1,13 @@
 -- Steps that a case asks for, and what they leave of its feed.
-use Rattle.std.proofs.Common.{◌≡◌, ℕ, zero, suc, ◌<◌, ◌≤◌, true, false, ◌&&◌, List, [], ◌∷◌, ◌++◌, drop, refl, sym, ap, ◌∙◌, subst, arith, append_assoc}
+use Rattle.std.proofs.Common.{◌≡◌, ℕ, suc, ◌<◌, ◌≤◌, true, false, ◌&&◌, List, [], ◌∷◌, ◌++◌, drop, refl, sym, ap, ◌∙◌, subst, arith, append_assoc}
 use Rattle.std.specs.Prelude.{◌==◌, Option, Some, None, slice_get}
 use Rattle.std.specs.List.{AllByRecursion}
 use Rattle.std.specs.Ordering.{is_eq}
-use Rattle.std.specs.FinMap.{slice_cmp-IsAntisymmetric, nat_cmp-IsAntisymmetric}
 use Rattle.std.specs.declared.cmp.Ordering.{Ordering}
 use Rattle.std.specs.declared.cmp.Ordering.TheVariants.{Less, Equal, Greater}
 use Rattle.std.proofs.lemmas.Bool.{and_parts, ltb-true, eqb-true}
 use Rattle.dn_guest.specs.declared.input.Input.{Input}
-use Rattle.dn_guest.specs.declared.input.Input.TheVariants.{Tick, Cmd, Down, Up, Msg}
-use Rattle.dn_guest.specs.InputOrder.{input_cmp, input_numbers}
+use Rattle.dn_guest.specs.InputOrder.{input_cmp}
 use Rattle.dn_model.specs.declared.event.Event.{Event}
 use Rattle.dn_model.specs.declared.feed.External.{External}
 use Rattle.dn_model.specs.Cases.{Heading, AreExternals}
@@ -26,69 +24,49 @@ use Rattle.dn_drive.proofs.May.{may}
 
 -- ---- what the case asks
 
--- an input from its numbers
-input_from : List ℕ → Input
-input_from (zero ∷ group ∷ more) = Tick group
-input_from (suc zero ∷ body) = Cmd body
-input_from (suc (suc zero) ∷ port ∷ more) = Down port
-input_from (suc (suc (suc zero)) ∷ port ∷ more) = Up port
-input_from (suc (suc (suc (suc n))) ∷ port ∷ body) = Msg port body
-input_from _ = Tick 0
-
-input_from_its : (i : Input) → input_from (input_numbers i) ≡ i
-unfolding input_from
-input_from_its (Tick group) = refl
-input_from_its (Cmd body) = refl
-input_from_its (Down port) = refl
-input_from_its (Up port) = refl
-input_from_its (Msg port body) = refl
-
 is_equal : (o : Ordering) → is_eq o ≡ true → o ≡ Equal
 is_equal Less h = absurd (cc)
 is_equal Equal h = refl
 is_equal Greater h = absurd (cc)
 
 -- the order of inputs tells them apart
-input_same : (x y : Input) → input_cmp x y ≡ Equal → x ≡ y
-unfolding input_cmp
-input_same x y h =
-    let e : input_numbers x ≡ input_numbers y = slice_cmp-IsAntisymmetric nat_cmp-IsAntisymmetric (input_numbers x) (input_numbers y) h in
-    sym (input_from_its x) ∙ ap input_from e ∙ input_from_its y
+abbrev pub InputsApart : Type 0
+InputsApart = (x y : Input) → input_cmp x y ≡ Equal → x ≡ y
 
-pub same_external : (x y : External) → is_same_external x y ≡ true → x ≡ y
-same_external x y h =
+pub same_external : InputsApart → (x y : External) → is_same_external x y ≡ true → x ≡ y
+same_external apart x y h =
     let a = and_parts ((x.group == y.group) && (x.router == y.router)) (is_eq (input_cmp x.input y.input)) h in
     let b = and_parts (x.group == y.group) (x.router == y.router) a.0 in
     let group : x.group ≡ y.group = eqb-true x.group y.group b.0 in
     let router : x.router ≡ y.router = eqb-true x.router y.router b.1 in
-    let input : x.input ≡ y.input = input_same x.input y.input (is_equal (input_cmp x.input y.input) a.1) in
+    let input : x.input ≡ y.input = apart x.input y.input (is_equal (input_cmp x.input y.input) a.1) in
     λ k. record { group = group k; router = router k; input = input k }
 
 starts : (floor : ℕ) (xs : List External) → starts_later floor xs ≡ true → StartsLater floor xs
 starts floor [] h = tt
 starts floor (x ∷ xs) h = ltb-true floor x.group h
 
-pub feeds : (w : World) (xs : List External) (s : Step) → is_fed w.floor xs s ≡ true → Feeds w xs s (rest_after xs s)
-feeds w xs Beacon h = (starts w.floor xs h, refl)
-feeds w [] (Inject x) h = absurd (cc)
-feeds w (y ∷ ys) (Inject x) h = ap (λ z. z ∷ ys) (same_external y x h)
-feeds w [] Close h = (refl, refl)
-feeds w (y ∷ ys) Close h = absurd (cc)
-feeds w xs (Deliver place) h = refl
-feeds w xs (Handle r) h = refl
-feeds w xs (RollBack r) h = refl
-feeds w xs Commit h = refl
+pub feeds : InputsApart → (w : World) (xs : List External) (s : Step) → is_fed w.floor xs s ≡ true → Feeds w xs s (rest_after xs s)
+feeds apart w xs Beacon h = (starts w.floor xs h, refl)
+feeds apart w [] (Inject x) h = absurd (cc)
+feeds apart w (y ∷ ys) (Inject x) h = ap (λ z. z ∷ ys) (same_external apart y x h)
+feeds apart w [] Close h = (refl, refl)
+feeds apart w (y ∷ ys) Close h = absurd (cc)
+feeds apart w xs (Deliver place) h = refl
+feeds apart w xs (Handle r) h = refl
+feeds apart w xs (RollBack r) h = refl
+feeds apart w xs Commit h = refl
 
 -- what a step injects stands before the rest after it
-pub injects_on : (w : World) (xs further : List External) (s : Step) (ss : List Step) → is_fed w.floor xs s ≡ true → injects ss ++ further ≡ rest_after xs s → injects (s ∷ ss) ++ further ≡ xs
+pub injects_on : InputsApart → (w : World) (xs further : List External) (s : Step) (ss : List Step) → is_fed w.floor xs s ≡ true → injects ss ++ further ≡ rest_after xs s → injects (s ∷ ss) ++ further ≡ xs
 unfolding injects
-injects_on w xs further Beacon ss fe e = e
-injects_on w xs further (Inject x) ss fe e = ap (λ l. x ∷ l) e ∙ sym (feeds w xs (Inject x) fe)
-injects_on w xs further Close ss fe e = e
-injects_on w xs further (Deliver place) ss fe e = e
-injects_on w xs further (Handle r) ss fe e = e
-injects_on w xs further (RollBack r) ss fe e = e
-injects_on w xs further Commit ss fe e = e
+injects_on apart w xs further Beacon ss fe e = e
+injects_on apart w xs further (Inject x) ss fe e = ap (λ l. x ∷ l) e ∙ sym (feeds apart w xs (Inject x) fe)
+injects_on apart w xs further Close ss fe e = e
+injects_on apart w xs further (Deliver place) ss fe e = e
+injects_on apart w xs further (Handle r) ss fe e = e
+injects_on apart w xs further (RollBack r) ss fe e = e
+injects_on apart w xs further Commit ss fe e = e
 
 -- ---- the world and the rest of the feed go together
 
@@ -139,14 +117,14 @@ module _ {S : Type 0} (net : Network S) where
   handle_same w r p [] = record { accepted = refl; floor = refl; closed = refl }
   handle_same w r p (e ∷ es) = record { accepted = refl; floor = refl; closed = refl }
 
-  pub goes_on : (feed : List External) (w : World) (xs : List External) (s : Step) → is_enabled net w s ≡ true → is_fed w.floor xs s ≡ true → Goes net.header feed w xs → Goes net.header feed (after net w s) (rest_after xs s)
+  pub goes_on : InputsApart → (feed : List External) (w : World) (xs : List External) (s : Step) → is_enabled net w s ≡ true → is_fed w.floor xs s ≡ true → Goes net.header feed w xs → Goes net.header feed (after net w s) (rest_after xs s)
   unfolding after beacon inject roll_back
-  goes_on feed w xs Beacon en fe g =
+  goes_on apart feed w xs Beacon en fe g =
       let m = may net w Beacon en in
       record { whole = g.whole; rules = later_rules net.header w.floor xs g.rules (starts w.floor xs fe); floor = omega arith; no_more = g.no_more }
-  goes_on feed w xs (Inject x) en fe g =
+  goes_on apart feed w xs (Inject x) en fe g =
       let m = may net w (Inject x) en in
-      let e : xs ≡ x ∷ drop 1 xs = feeds w xs (Inject x) fe in
+      let e : xs ≡ x ∷ drop 1 xs = feeds apart w xs (Inject x) fe in
       let r : AreExternals net.header w.floor (x ∷ drop 1 xs) = subst (AreExternals net.header w.floor) e g.rules in
       record {
         whole = append_assoc w.accepted (x ∷ []) (drop 1 xs) ∙ ap (λ l. w.accepted ++ l) (sym e) ∙ g.whole;
@@ -154,24 +132,24 @@ module _ {S : Type 0} (net : Network S) where
         floor = g.floor;
         no_more = λ c. absurd (let no : true ≡ false = sym c ∙ m.0 in cc);
       }
-  goes_on feed w xs Close en fe g =
-      let e = feeds w xs Close fe in
+  goes_on apart feed w xs Close en fe g =
+      let e = feeds apart w xs Close fe in
       record { whole = g.whole; rules = g.rules; floor = g.floor; no_more = λ _. e.0 }
-  goes_on feed w xs (Deliver place) en fe g = goes_same net.header feed w (after net w (Deliver place)) xs (deliver_same w place (slice_get w.flight place)) g
-  goes_on feed w xs (Handle r) en fe g = goes_same net.header feed w (after net w (Handle r)) xs (handle_same w r (part w r) (part w r).todo) g
-  goes_on feed w xs (RollBack r) en fe g = record { whole = g.whole; rules = g.rules; floor = g.floor; no_more = g.no_more }
-  goes_on feed w xs Commit en fe g = record { whole = g.whole; rules = g.rules; floor = g.floor; no_more = g.no_more }
+  goes_on apart feed w xs (Deliver place) en fe g = goes_same net.header feed w (after net w (Deliver place)) xs (deliver_same w place (slice_get w.flight place)) g
+  goes_on apart feed w xs (Handle r) en fe g = goes_same net.header feed w (after net w (Handle r)) xs (handle_same w r (part w r) (part w r).todo) g
+  goes_on apart feed w xs (RollBack r) en fe g = record { whole = g.whole; rules = g.rules; floor = g.floor; no_more = g.no_more }
+  goes_on apart feed w xs Commit en fe g = record { whole = g.whole; rules = g.rules; floor = g.floor; no_more = g.no_more }
 
   -- once the world is closed nothing is left
-  pub no_more_on : (w : World) (xs : List External) (s : Step) → is_enabled net w s ≡ true → is_fed w.floor xs s ≡ true → (w.closed ≡ true → xs ≡ []) → (after net w s).closed ≡ true → rest_after xs s ≡ []
+  pub no_more_on : InputsApart → (w : World) (xs : List External) (s : Step) → is_enabled net w s ≡ true → is_fed w.floor xs s ≡ true → (w.closed ≡ true → xs ≡ []) → (after net w s).closed ≡ true → rest_after xs s ≡ []
   unfolding after beacon inject roll_back
-  no_more_on w xs Beacon en fe none c = none c
-  no_more_on w xs (Inject x) en fe none c = absurd (let no : true ≡ false = sym c ∙ (may net w (Inject x) en).0 in cc)
-  no_more_on w xs Close en fe none c = (feeds w xs Close fe).0
-  no_more_on w xs (Deliver place) en fe none c = none (sym (deliver_same w place (slice_get w.flight place)).closed ∙ c)
-  no_more_on w xs (Handle r) en fe none c = none (sym (handle_same w r (part w r) (part w r).todo).closed ∙ c)
-  no_more_on w xs (RollBack r) en fe none c = none c
-  no_more_on w xs Commit en fe none c = none c
+  no_more_on apart w xs Beacon en fe none c = none c
+  no_more_on apart w xs (Inject x) en fe none c = absurd (let no : true ≡ false = sym c ∙ (may net w (Inject x) en).0 in cc)
+  no_more_on apart w xs Close en fe none c = (feeds apart w xs Close fe).0
+  no_more_on apart w xs (Deliver place) en fe none c = none (sym (deliver_same w place (slice_get w.flight place)).closed ∙ c)
+  no_more_on apart w xs (Handle r) en fe none c = none (sym (handle_same w r (part w r) (part w r).todo).closed ∙ c)
+  no_more_on apart w xs (RollBack r) en fe none c = none c
+  no_more_on apart w xs Commit en fe none c = none c
 
   fed_more : (w : World) (feed xs ys : List External) (js : List Step) (s : Step) → IsFedFrom net w feed js xs → is_enabled net (run net w js) s ≡ true → Feeds (run net w js) xs s ys → IsFedFrom net w feed (js ++ s ∷ []) ys
   unfolding IsFedFrom run
@@ -184,13 +162,13 @@ module _ {S : Type 0} (net : Network S) where
     pub fed : IsFedFrom net (opening (routers net)) feed f.journal xs
     pub goes : Goes net.header feed f.live.world xs
 
-  pub step_on : (feed : List External) (f now : Fabric S) (xs : List External) (s : Step) → IsOn feed f xs → is_enabled net f.live.world s ≡ true → is_fed f.live.world.floor xs s ≡ true → HasStepped net f s now → IsOn feed now (rest_after xs s)
-  step_on feed f now xs s o en fe h =
+  pub step_on : InputsApart → (feed : List External) (f now : Fabric S) (xs : List External) (s : Step) → IsOn feed f xs → is_enabled net f.live.world s ≡ true → is_fed f.live.world.floor xs s ≡ true → HasStepped net f s now → IsOn feed now (rest_after xs s)
+  step_on apart feed f now xs s o en fe h =
       let is_now : IsOn feed (stepped net f s) (rest_after xs s) = record {
         reached = subst (IsReached net) h.is h.reached;
         fed = fed_more (opening (routers net)) feed xs (rest_after xs s) f.journal s o.fed
             (subst (λ w. is_enabled net w s ≡ true) (sym o.reached.world) en)
-            (subst (λ w. Feeds w xs s (rest_after xs s)) (sym o.reached.world) (feeds f.live.world xs s fe));
-        goes = goes_on feed f.live.world xs s en fe o.goes;
+            (subst (λ w. Feeds w xs s (rest_after xs s)) (sym o.reached.world) (feeds apart f.live.world xs s fe));
+        goes = goes_on apart feed f.live.world xs s en fe o.goes;
       } in
       subst (λ n. IsOn feed n (rest_after xs s)) (sym h.is) is_now

@@ -17,7 +17,7 @@ use Rattle.dn_drive.specs.Allowed.{end_of, is_allowed, legal_front, rerun, rest_
 use Rattle.dn_drive.specs.Choices.{choices, drawn, schedule}
 use Rattle.dn_drive.proofs.Ending.{closed_if_quiet, no_more_above}
 use Rattle.dn_drive.proofs.Following.{rerun_on, rerun_cut, rerun_no, rerun_end, front_on, front_cut, front_no, front_end}
-use Rattle.dn_drive.proofs.Going.{Goes, goes_on, injects_on, no_more_on}
+use Rattle.dn_drive.proofs.Going.{Goes, InputsApart, goes_on, injects_on, no_more_on}
 use Rattle.dn_drive.proofs.Scheduling.{chosen_allowed, schedule_on, schedule_zero}
 use Rattle.dn_drive.proofs.Ways.{allowed_parts}
 
@@ -58,26 +58,26 @@ module _ {S : Type 0} (net : Network S) where
   unfolding IsLegalFrom run injects
   runs_none w xs none = record { legal = tt; further = xs; whole = refl; no_more = none }
 
-  runs_on : (w : World) (xs : List External) (s : Step) (ss : List Step) → is_allowed net w xs s ≡ true → Runs (after net w s) (rest_after xs s) ss → Runs w xs (s ∷ ss)
+  runs_on : InputsApart → (w : World) (xs : List External) (s : Step) (ss : List Step) → is_allowed net w xs s ≡ true → Runs (after net w s) (rest_after xs s) ss → Runs w xs (s ∷ ss)
   unfolding IsLegalFrom run
-  runs_on w xs s ss a r =
+  runs_on apart w xs s ss a r =
       let p = allowed_parts net xs w xs s a in
-      record { legal = (p.0, r.legal); further = r.further; whole = injects_on w xs r.further s ss p.1 r.whole; no_more = r.no_more }
+      record { legal = (p.0, r.legal); further = r.further; whole = injects_on apart w xs r.further s ss p.1 r.whole; no_more = r.no_more }
 
-  next_none : (w : World) (xs : List External) (s : Step) → is_allowed net w xs s ≡ true → NoMore w xs → NoMore (after net w s) (rest_after xs s)
-  next_none w xs s a none = let p = allowed_parts net xs w xs s a in no_more_on net w xs s p.0 p.1 none
+  next_none : InputsApart → (w : World) (xs : List External) (s : Step) → is_allowed net w xs s ≡ true → NoMore w xs → NoMore (after net w s) (rest_after xs s)
+  next_none apart w xs s a none = let p = allowed_parts net xs w xs s a in no_more_on net apart w xs s p.0 p.1 none
 
-  front_cases : (w : World) (xs : List External) (s : Step) (ss : List Step) → NoMore w xs → (NoMore (after net w s) (rest_after xs s) → Runs (after net w s) (rest_after xs s) (legal_front net (after net w s) (rest_after xs s) ss)) → (a c : Bool) → is_allowed net w xs s ≡ a → is_cut_off net (after net w s) ≡ c → Runs w xs (legal_front net w xs (s ∷ ss))
-  front_cases w xs s ss none more true true a c =
-      subst (Runs w xs) (sym (front_cut net w xs s ss a c)) (runs_on w xs s [] a (runs_none (after net w s) (rest_after xs s) (next_none w xs s a none)))
-  front_cases w xs s ss none more true false a c =
-      subst (Runs w xs) (sym (front_on net w xs s ss a c)) (runs_on w xs s (legal_front net (after net w s) (rest_after xs s) ss) a (more (next_none w xs s a none)))
-  front_cases w xs s ss none more false b a c = subst (Runs w xs) (sym (front_no net w xs s ss a)) (runs_none w xs none)
+  front_cases : InputsApart → (w : World) (xs : List External) (s : Step) (ss : List Step) → NoMore w xs → (NoMore (after net w s) (rest_after xs s) → Runs (after net w s) (rest_after xs s) (legal_front net (after net w s) (rest_after xs s) ss)) → (a c : Bool) → is_allowed net w xs s ≡ a → is_cut_off net (after net w s) ≡ c → Runs w xs (legal_front net w xs (s ∷ ss))
+  front_cases apart w xs s ss none more true true a c =
+      subst (Runs w xs) (sym (front_cut net w xs s ss a c)) (runs_on apart w xs s [] a (runs_none (after net w s) (rest_after xs s) (next_none apart w xs s a none)))
+  front_cases apart w xs s ss none more true false a c =
+      subst (Runs w xs) (sym (front_on net w xs s ss a c)) (runs_on apart w xs s (legal_front net (after net w s) (rest_after xs s) ss) a (more (next_none apart w xs s a none)))
+  front_cases apart w xs s ss none more false b a c = subst (Runs w xs) (sym (front_no net w xs s ss a)) (runs_none w xs none)
 
-  front_runs : (w : World) (xs : List External) (ss : List Step) → NoMore w xs → Runs w xs (legal_front net w xs ss)
-  front_runs w xs [] none = subst (Runs w xs) (sym (front_end net w xs)) (runs_none w xs none)
-  front_runs w xs (s ∷ ss) none =
-      front_cases w xs s ss none (front_runs (after net w s) (rest_after xs s) ss) (is_allowed net w xs s) (is_cut_off net (after net w s)) refl refl
+  front_runs : InputsApart → (w : World) (xs : List External) (ss : List Step) → NoMore w xs → Runs w xs (legal_front net w xs ss)
+  front_runs apart w xs [] none = subst (Runs w xs) (sym (front_end net w xs)) (runs_none w xs none)
+  front_runs apart w xs (s ∷ ss) none =
+      front_cases apart w xs s ss none (front_runs apart (after net w s) (rest_after xs s) ss) (is_allowed net w xs s) (is_cut_off net (after net w s)) refl refl
 
   -- ---- they are a front of the steps
 
@@ -142,11 +142,11 @@ module _ {S : Type 0} (net : Network S) where
     unfolding opening
     not_closed c = absurd (cc)
 
-    taken : Runs (opening (routers net)) feed (legal_front net (opening (routers net)) feed steps)
-    taken = front_runs (opening (routers net)) feed steps not_closed
+    taken : InputsApart → Runs (opening (routers net)) feed (legal_front net (opening (routers net)) feed steps)
+    taken apart = front_runs apart (opening (routers net)) feed steps not_closed
 
-    pub taken_legal : IsLegalOf net feed (legal_front net (opening (routers net)) feed steps)
-    taken_legal = record { legal = taken.legal; further = taken.further; whole = taken.whole; no_more = taken.no_more }
+    pub taken_legal : InputsApart → IsLegalOf net feed (legal_front net (opening (routers net)) feed steps)
+    taken_legal apart = let t = taken apart in record { legal = t.legal; further = t.further; whole = t.whole; no_more = t.no_more }
 
     pub taken_cut : rerun net (opening (routers net)) feed 0 steps ≡ Cut → is_cut_off net (world net (legal_front net (opening (routers net)) feed steps)) ≡ true
     taken_cut is = subst (Comes (opening (routers net)) feed steps) is (comes (opening (routers net)) feed 0 steps)
@@ -158,13 +158,14 @@ module _ {S : Type 0} (net : Network S) where
       end : (is_quiet (world net steps) ≡ true) × (can_commit net.header (world net steps) ≡ false)
       end = end_whole net.header (world net steps) come.1
 
-      pub whole_legal : IsLegalOf net feed steps
-      whole_legal = subst (IsLegalOf net feed) come.0 taken_legal
+      pub whole_legal : InputsApart → IsLegalOf net feed steps
+      whole_legal apart = subst (IsLegalOf net feed) come.0 (taken_legal apart)
 
-      pub whole_all : injects steps ≡ feed
-      whole_all =
-          let none : whole_legal.further ≡ [] = whole_legal.no_more (closed_if_quiet (world net steps) end.0) in
-          sym (append-nil (injects steps)) ∙ ap (λ l. injects steps ++ l) (sym none) ∙ whole_legal.whole
+      pub whole_all : InputsApart → injects steps ≡ feed
+      whole_all apart =
+          let l = whole_legal apart in
+          let none : l.further ≡ [] = l.no_more (closed_if_quiet (world net steps) end.0) in
+          sym (append-nil (injects steps)) ∙ ap (λ l. injects steps ++ l) (sym none) ∙ l.whole
 
       pub whole_quiet : is_quiet (world net steps) ≡ true
       whole_quiet = end.0
@@ -189,23 +190,23 @@ module _ {S : Type 0} (net : Network S) where
   schedule_stops w xs h m at =
       ap (λ o. option_map_or (λ s. s ∷ (if is_cut_off net (after net w s) then [] else schedule net (after net w s) (rest_after xs s) (drawn h) m)) o []) at
 
-  chosen_front : (feed : List External) (w : World) (xs : List External) (h m : ℕ) → Goes net.header feed w xs → IsBalanced net w → ((s : Step) → is_allowed net w xs s ≡ true → legal_front net (after net w s) (rest_after xs s) (schedule net (after net w s) (rest_after xs s) (drawn h) m) ≡ schedule net (after net w s) (rest_after xs s) (drawn h) m) → (o : Option Step) → slice_get (choices net.header w xs) (drawn h % length (choices net.header w xs)) ≡ o → legal_front net w xs (schedule net w xs h (suc m)) ≡ schedule net w xs h (suc m)
-  chosen_front feed w xs h m g c more None at = subst (λ l. legal_front net w xs l ≡ l) (sym (schedule_stops w xs h m at)) (front_end net w xs)
-  chosen_front feed w xs h m g c more (Some s) at =
-      let a : is_allowed net w xs s ≡ true = chosen_allowed net net.header w xs feed (drawn h % length (choices net.header w xs)) s refl (parts_of w c) g at in
+  chosen_front : InputsApart → (feed : List External) (w : World) (xs : List External) (h m : ℕ) → Goes net.header feed w xs → IsBalanced net w → ((s : Step) → is_allowed net w xs s ≡ true → legal_front net (after net w s) (rest_after xs s) (schedule net (after net w s) (rest_after xs s) (drawn h) m) ≡ schedule net (after net w s) (rest_after xs s) (drawn h) m) → (o : Option Step) → slice_get (choices net.header w xs) (drawn h % length (choices net.header w xs)) ≡ o → legal_front net w xs (schedule net w xs h (suc m)) ≡ schedule net w xs h (suc m)
+  chosen_front apart feed w xs h m g c more None at = subst (λ l. legal_front net w xs l ≡ l) (sym (schedule_stops w xs h m at)) (front_end net w xs)
+  chosen_front apart feed w xs h m g c more (Some s) at =
+      let a : is_allowed net w xs s ≡ true = chosen_allowed net apart net.header w xs feed (drawn h % length (choices net.header w xs)) s refl (parts_of w c) g at in
       turn_front w xs h m s a (λ _. more s a) (is_cut_off net (after net w s)) refl (schedule net w xs h (suc m)) (schedule_on net w xs h (suc m) m s refl at)
 
   -- each enabled step keeps the balance
   abbrev StaysBalanced : Type 0
   StaysBalanced = (w : World) (s : Step) → is_enabled net w s ≡ true → IsBalanced net w → IsBalanced net (after net w s)
 
-  schedule_front : StaysBalanced → (feed : List External) (w : World) (xs : List External) (h n : ℕ) → Goes net.header feed w xs → IsBalanced net w → legal_front net w xs (schedule net w xs h n) ≡ schedule net w xs h n
-  schedule_front stays feed w xs h zero g c = subst (λ l. legal_front net w xs l ≡ l) (sym (schedule_zero net w xs h zero refl)) (front_end net w xs)
-  schedule_front stays feed w xs h (suc m) g c =
-      chosen_front feed w xs h m g c
+  schedule_front : InputsApart → StaysBalanced → (feed : List External) (w : World) (xs : List External) (h n : ℕ) → Goes net.header feed w xs → IsBalanced net w → legal_front net w xs (schedule net w xs h n) ≡ schedule net w xs h n
+  schedule_front apart stays feed w xs h zero g c = subst (λ l. legal_front net w xs l ≡ l) (sym (schedule_zero net w xs h zero refl)) (front_end net w xs)
+  schedule_front apart stays feed w xs h (suc m) g c =
+      chosen_front apart feed w xs h m g c
       (λ s a.
       let p = allowed_parts net xs w xs s a in
-      schedule_front stays feed (after net w s) (rest_after xs s) (drawn h) m (goes_on net feed w xs s p.0 p.1 g) (stays w s p.0 c))
+      schedule_front apart stays feed (after net w s) (rest_after xs s) (drawn h) m (goes_on net apart feed w xs s p.0 p.1 g) (stays w s p.0 c))
       (slice_get (choices net.header w xs) (drawn h % length (choices net.header w xs))) refl
 
   opening_goes : (case : Recording) → IsRecording case → net.header ≡ case.header → Goes net.header case.feed (opening (routers net)) case.feed
@@ -220,6 +221,6 @@ module _ {S : Type 0} (net : Network S) where
         no_more = λ c. absurd (cc);
       }
 
-  pub schedule_taken : StaysBalanced → IsBalanced net (opening (routers net)) → (case : Recording) (number turns : ℕ) → IsRecording case → net.header ≡ case.header → legal_front net (opening (routers net)) case.feed (schedule net (opening (routers net)) case.feed number turns) ≡ schedule net (opening (routers net)) case.feed number turns
-  schedule_taken stays balanced case number turns is same =
-      schedule_front stays case.feed (opening (routers net)) case.feed number turns (opening_goes case is same) balanced
+  pub schedule_taken : InputsApart → StaysBalanced → IsBalanced net (opening (routers net)) → (case : Recording) (number turns : ℕ) → IsRecording case → net.header ≡ case.header → legal_front net (opening (routers net)) case.feed (schedule net (opening (routers net)) case.feed number turns) ≡ schedule net (opening (routers net)) case.feed number turns
+  schedule_taken apart stays balanced case number turns is same =
+      schedule_front apart stays case.feed (opening (routers net)) case.feed number turns (opening_goes case is same) balanced

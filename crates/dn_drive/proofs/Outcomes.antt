@@ -14,7 +14,7 @@ use Rattle.dn_drive.specs.declared.ended.Ended.TheVariants.{Whole, Cut, Illegal,
 use Rattle.dn_drive.specs.Allowed.{end_of, is_allowed, legal_front, rerun, rest_after}
 use Rattle.dn_drive.specs.Outcomes.{StopsAt, StaysOpen}
 use Rattle.dn_drive.proofs.Following.{rerun_on, rerun_cut, rerun_no, rerun_end, front_on, front_cut, front_no, front_end}
-use Rattle.dn_drive.proofs.Going.{injects_on}
+use Rattle.dn_drive.proofs.Going.{InputsApart, injects_on}
 use Rattle.dn_drive.proofs.Journals.{taken_legal}
 use Rattle.dn_drive.proofs.Ways.{allowed_parts}
 
@@ -101,11 +101,11 @@ module _ {S : Type 0} (net : Network S) where
         uncut = c;
       }
 
-  says_on : (w : World) (xs : List External) (n : ℕ) (s : Step) (ss : List Step) → is_allowed net w xs s ≡ true → is_cut_off net (after net w s) ≡ false → (e : Ended) → Says (after net w s) (rest_after xs s) (suc n) ss e → Says w xs n (s ∷ ss) e
+  says_on : InputsApart → (w : World) (xs : List External) (n : ℕ) (s : Step) (ss : List Step) → is_allowed net w xs s ≡ true → is_cut_off net (after net w s) ≡ false → (e : Ended) → Says (after net w s) (rest_after xs s) (suc n) ss e → Says w xs n (s ∷ ss) e
   unfolding run
-  says_on w xs n s ss a c Whole p = tt
-  says_on w xs n s ss a c Cut p = tt
-  says_on w xs n s ss a c (Illegal m) p =
+  says_on apart w xs n s ss a c Whole p = tt
+  says_on apart w xs n s ss a c Cut p = tt
+  says_on apart w xs n s ss a c (Illegal m) p =
       let count = p.number in
       record {
         before = s ∷ p.before;
@@ -115,24 +115,24 @@ module _ {S : Type 0} (net : Network S) where
         number = omega (arith, count);
         taken = front_on net w xs s ss a c ∙ ap (λ l. s ∷ l) p.taken;
         rest = p.rest;
-        fed = injects_on w xs p.rest s p.before (allowed_parts net xs w xs s a).1 p.fed;
+        fed = injects_on apart w xs p.rest s p.before (allowed_parts net xs w xs s a).1 p.fed;
         not_allowed = p.not_allowed;
         uncut = p.uncut;
       }
-  says_on w xs n s ss a c Open p =
+  says_on apart w xs n s ss a c Open p =
       record { taken = front_on net w xs s ss a c ∙ ap (λ l. s ∷ l) p.taken; uncut = p.uncut; left = p.left }
 
-  says_cases : (w : World) (xs : List External) (n : ℕ) (s : Step) (ss : List Step) → is_cut_off net w ≡ false → (is_cut_off net (after net w s) ≡ false → Says (after net w s) (rest_after xs s) (suc n) ss (rerun net (after net w s) (rest_after xs s) (suc n) ss)) → (a c : Bool) → is_allowed net w xs s ≡ a → is_cut_off net (after net w s) ≡ c → Says w xs n (s ∷ ss) (rerun net w xs n (s ∷ ss))
-  says_cases w xs n s ss u more true true a c = subst (Says w xs n (s ∷ ss)) (sym (rerun_cut net w xs n s ss a c)) tt
-  says_cases w xs n s ss u more true false a c =
+  says_cases : InputsApart → (w : World) (xs : List External) (n : ℕ) (s : Step) (ss : List Step) → is_cut_off net w ≡ false → (is_cut_off net (after net w s) ≡ false → Says (after net w s) (rest_after xs s) (suc n) ss (rerun net (after net w s) (rest_after xs s) (suc n) ss)) → (a c : Bool) → is_allowed net w xs s ≡ a → is_cut_off net (after net w s) ≡ c → Says w xs n (s ∷ ss) (rerun net w xs n (s ∷ ss))
+  says_cases apart w xs n s ss u more true true a c = subst (Says w xs n (s ∷ ss)) (sym (rerun_cut net w xs n s ss a c)) tt
+  says_cases apart w xs n s ss u more true false a c =
       subst (Says w xs n (s ∷ ss)) (sym (rerun_on net w xs n s ss a c))
-      (says_on w xs n s ss a c (rerun net (after net w s) (rest_after xs s) (suc n) ss) (more c))
-  says_cases w xs n s ss u more false b a c = subst (Says w xs n (s ∷ ss)) (sym (rerun_no net w xs n s ss a)) (says_no w xs n s ss u a)
+      (says_on apart w xs n s ss a c (rerun net (after net w s) (rest_after xs s) (suc n) ss) (more c))
+  says_cases apart w xs n s ss u more false b a c = subst (Says w xs n (s ∷ ss)) (sym (rerun_no net w xs n s ss a)) (says_no w xs n s ss u a)
 
-  says : (w : World) (xs : List External) (n : ℕ) (ss : List Step) → is_cut_off net w ≡ false → Says w xs n ss (rerun net w xs n ss)
-  says w xs n [] u = subst (Says w xs n []) (sym (rerun_end net w xs n)) (says_none w xs n u (end_of net.header w) refl)
-  says w xs n (s ∷ ss) u =
-      says_cases w xs n s ss u (λ c. says (after net w s) (rest_after xs s) (suc n) ss c) (is_allowed net w xs s) (is_cut_off net (after net w s)) refl refl
+  says : InputsApart → (w : World) (xs : List External) (n : ℕ) (ss : List Step) → is_cut_off net w ≡ false → Says w xs n ss (rerun net w xs n ss)
+  says apart w xs n [] u = subst (Says w xs n []) (sym (rerun_end net w xs n)) (says_none w xs n u (end_of net.header w) refl)
+  says apart w xs n (s ∷ ss) u =
+      says_cases apart w xs n s ss u (λ c. says apart (after net w s) (rest_after xs s) (suc n) ss c) (is_allowed net w xs s) (is_cut_off net (after net w s)) refl refl
 
   -- ---- the other way round
 
@@ -186,9 +186,9 @@ module _ {S : Type 0} (net : Network S) where
     abbrev first : World
     first = opening (routers net)
 
-    pub illegal_stops : is_cut_off net first ≡ false → (n : ℕ) → rerun net first feed 0 steps ≡ Illegal n → StopsAt net feed steps n
-    illegal_stops uncut n is =
-        let p : Stops first feed 0 n steps = subst (Says first feed 0 steps) is (says first feed 0 steps uncut) in
+    pub illegal_stops : InputsApart → is_cut_off net first ≡ false → (n : ℕ) → rerun net first feed 0 steps ≡ Illegal n → StopsAt net feed steps n
+    illegal_stops apart uncut n is =
+        let p : Stops first feed 0 n steps = subst (Says first feed 0 steps) is (says apart first feed 0 steps uncut) in
         let count = p.number in
         record {
           before = p.before;
@@ -197,17 +197,17 @@ module _ {S : Type 0} (net : Network S) where
           whole = p.whole;
           number = omega (arith, count);
           taken = p.taken;
-          legal = subst (IsLegalOf net feed) p.taken (taken_legal net feed steps);
+          legal = subst (IsLegalOf net feed) p.taken (taken_legal net feed steps apart);
           rest = p.rest;
           fed = p.fed;
           not_allowed = p.not_allowed;
           uncut = p.uncut;
         }
 
-    pub open_stays : is_cut_off net first ≡ false → rerun net first feed 0 steps ≡ Open → StaysOpen net feed steps
-    open_stays uncut is =
-        let p : Goes first feed steps = subst (Says first feed 0 steps) is (says first feed 0 steps uncut) in
-        record { taken = p.taken; legal = subst (IsLegalOf net feed) p.taken (taken_legal net feed steps); uncut = p.uncut; left = p.left }
+    pub open_stays : InputsApart → is_cut_off net first ≡ false → rerun net first feed 0 steps ≡ Open → StaysOpen net feed steps
+    open_stays apart uncut is =
+        let p : Goes first feed steps = subst (Says first feed 0 steps) is (says apart first feed 0 steps uncut) in
+        record { taken = p.taken; legal = subst (IsLegalOf net feed) p.taken (taken_legal net feed steps apart); uncut = p.uncut; left = p.left }
 
     pub stops_illegal : (n : ℕ) → StopsAt net feed steps n → rerun net first feed 0 steps ≡ Illegal n
     stops_illegal n p =

@@ -23,7 +23,7 @@ use Rattle.dn_drive.specs.Choices.{choices, commit_steps, drawn, feed_steps, nex
 use Rattle.dn_fabric.specs.Driven.{IsOpening}
 use Rattle.dn_drive.proofs.Allowing.{allowed_is, both_from}
 use Rattle.dn_drive.proofs.Following.{if_true, if_false}
-use Rattle.dn_drive.proofs.Going.{Goes}
+use Rattle.dn_drive.proofs.Going.{Goes, InputsApart}
 
 -- ---- what is chosen is allowed
 
@@ -123,9 +123,9 @@ module _ (h : Heading) (w : World) where
 -- ---- the schedule, one step after another
 
 module _ {S : Type 0} (net : Network S) where
-  pub chosen_allowed : (h : Heading) (w : World) (xs : List External) (feed : List External) (i : ℕ) (s : Step) → net.header ≡ h → length w.parts ≡ length h.routers → Goes net.header feed w xs → slice_get (choices h w xs) i ≡ Some s → is_allowed net w xs s ≡ true
-  chosen_allowed h w xs feed i s e parts g at =
-      sym (allowed_is net w xs s g.rules)
+  pub chosen_allowed : InputsApart → (h : Heading) (w : World) (xs : List External) (feed : List External) (i : ℕ) (s : Step) → net.header ≡ h → length w.parts ≡ length h.routers → Goes net.header feed w xs → slice_get (choices h w xs) i ≡ Some s → is_allowed net w xs s ≡ true
+  chosen_allowed apart h w xs feed i s e parts g at =
+      sym (allowed_is apart net w xs s g.rules)
       ∙ ap (λ k. is_allowed_here k w xs s) e
       ∙ element (λ s. is_allowed_here h w xs s ≡ true) (choices h w xs) i s
       (all_may h w xs parts (subst (λ (k : Heading). w.floor < k.groups) e g.floor) (subst (λ k. AreExternals k w.floor xs) e g.rules)) at

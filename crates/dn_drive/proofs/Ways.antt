@@ -17,7 +17,7 @@ use Rattle.dn_fabric.specs.Fabrics.{Fabric, IsNetworkOf, IsReached, HasStepped, 
 use Rattle.dn_drive.specs.Allowed.{is_fed, rest_after, is_allowed_here, is_allowed}
 use Rattle.dn_fabric.specs.Driven.{IsOpening}
 use Rattle.dn_drive.specs.Driving.{IsDriven, IsOfSameNetwork}
-use Rattle.dn_drive.proofs.Going.{IsOn, step_on}
+use Rattle.dn_drive.proofs.Going.{InputsApart, IsOn, step_on}
 use Rattle.dn_drive.proofs.Following.{Follows, follows_on}
 use Rattle.dn_drive.proofs.Allowing.{allowed_is}
 
@@ -48,22 +48,22 @@ module _ {S : Type 0} (net : Network S) (feed : List External) where
       subst (λ (g : Fabric S). IsWay g feed) (sym e) (way_first f.live.openings rec_here (subst (IsReached net) e r))
 
   -- an allowed step is enabled, and the case asks for it
-  pub way_allowed : (h : Heading) (f : Fabric S) (xs : List External) (s : Step) (b : Bool) → net.header ≡ h → IsWay f xs → is_allowed_here h f.live.world xs s ≡ b → is_allowed net f.live.world xs s ≡ b
-  way_allowed h f xs s b e v a =
-      sym (allowed_is net f.live.world xs s v.on.goes.rules) ∙ ap (λ g. is_allowed_here g f.live.world xs s) e ∙ a
+  pub way_allowed : InputsApart → (h : Heading) (f : Fabric S) (xs : List External) (s : Step) (b : Bool) → net.header ≡ h → IsWay f xs → is_allowed_here h f.live.world xs s ≡ b → is_allowed net f.live.world xs s ≡ b
+  way_allowed inputs h f xs s b e v a =
+      sym (allowed_is inputs net f.live.world xs s v.on.goes.rules) ∙ ap (λ g. is_allowed_here g f.live.world xs s) e ∙ a
 
   pub allowed_parts : (w : World) (xs : List External) (s : Step) → is_allowed net w xs s ≡ true → (is_enabled net w s ≡ true) × (is_fed w.floor xs s ≡ true)
   unfolding is_allowed
   allowed_parts w xs s a = and_parts (is_enabled net w s) (is_fed w.floor xs s) a
 
-  pub on_on : (f now : Fabric S) (xs : List External) (s : Step) → IsWay f xs → is_allowed net f.live.world xs s ≡ true → HasStepped net f s now → IsOn net feed now (rest_after xs s)
-  on_on f now xs s v a h =
+  pub on_on : InputsApart → (f now : Fabric S) (xs : List External) (s : Step) → IsWay f xs → is_allowed net f.live.world xs s ≡ true → HasStepped net f s now → IsOn net feed now (rest_after xs s)
+  on_on inputs f now xs s v a h =
       let p = allowed_parts f.live.world xs s a in
-      step_on net feed f now xs s v.on p.0 p.1 h
+      step_on net inputs feed f now xs s v.on p.0 p.1 h
 
-  pub way_on : (f now : Fabric S) (xs : List External) (s : Step) → IsWay f xs → is_allowed net f.live.world xs s ≡ true → HasStepped net f s now → now.live.cut ≡ false → IsWay now (rest_after xs s)
-  way_on f now xs s v a h c =
-      record { on = on_on f now xs s v a h; follows = follows_on net feed f now xs s v.follows a h.is c; uncut = c }
+  pub way_on : InputsApart → (f now : Fabric S) (xs : List External) (s : Step) → IsWay f xs → is_allowed net f.live.world xs s ≡ true → HasStepped net f s now → now.live.cut ≡ false → IsWay now (rest_after xs s)
+  way_on inputs f now xs s v a h c =
+      record { on = on_on inputs f now xs s v a h; follows = follows_on net feed f now xs s v.follows a h.is c; uncut = c }
 
 get_replicate : {X : Type 0} (n r : ℕ) (x : X) → get_or (replicate n x) r x ≡ x
 get_replicate zero r x = refl

@@ -29,6 +29,7 @@ pub fn whole_journals<S>()
         rerun net (opening (routers net)) feed 0 steps ≡ Whole →
         (world net steps).boundary ≡ horizon net.header (world net steps) }
 {
+    dn_model::laws::order_of_events();
     dn_world::laws::boundary::<S>();
     dn_world::laws::horizon::<S>();
 }
@@ -43,7 +44,9 @@ pub fn taken_steps<S>()
     ensures cut { (net : Network S) (feed : List External) (steps : List Step) →
         rerun net (opening (routers net)) feed 0 steps ≡ Cut →
         is_cut_off net (world net (legal_front net (opening (routers net)) feed steps)) ≡ true }
-{}
+{
+    dn_model::laws::order_of_events();
+}
 
 /// The number at `Illegal` is that of the first step that isn't allowed: the steps before it are taken, and the
 /// world that they reach isn't cut. Where steps stop so, the answer says so.
@@ -53,6 +56,7 @@ pub fn illegal_steps<S>()
     ensures only { (net : Network S) (feed : List External) (steps : List Step) (n : ℕ) → StopsAt net feed steps n
         → rerun net (opening (routers net)) feed 0 steps ≡ Illegal n }
 {
+    dn_model::laws::order_of_events();
     dn_world::laws::before_the_first_step::<S>();
 }
 
@@ -64,6 +68,7 @@ pub fn open_steps<S>()
     ensures only { (net : Network S) (feed : List External) (steps : List Step) → StaysOpen net feed steps
         → rerun net (opening (routers net)) feed 0 steps ≡ Open }
 {
+    dn_model::laws::order_of_events();
     dn_world::laws::before_the_first_step::<S>();
 }
 
@@ -74,6 +79,7 @@ pub fn schedules_are_taken<S>()
         legal_front net (opening (routers net)) case.feed (schedule net (opening (routers net)) case.feed number turns) ≡
         schedule net (opening (routers net)) case.feed number turns }
 {
+    dn_model::laws::order_of_events();
     dn_world::laws::equation::<S>();
 }
 

@@ -46,6 +46,7 @@ pub fn replay<G: Guest>(
 {
     // What the journal's own contract says holds of the fabric as it is given.
     let _journal = fabric.journal();
+    dn_model::laws::order_of_events();
     dn_fabric::laws::networks::<G>();
     cut_runs::<G>();
     let mut rest = feed;

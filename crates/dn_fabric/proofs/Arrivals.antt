@@ -8,16 +8,12 @@ use Rattle.dn_model.specs.declared.event.Event.{Event}
 use Rattle.dn_model.specs.declared.feed.External.{External}
 use Rattle.dn_model.specs.Cases.{Heading, IsHeading, timing_of}
 use Rattle.dn_model.specs.Links.{ends, ports_of}
-use Rattle.dn_model.specs.Order.{key_cmp}
 use Rattle.dn_model.specs.Network.{Network, routers, opening_node, tick, external}
-use Rattle.std.specs.Ordering.{is_gt}
 use Rattle.dn_world.specs.declared.packet.Packet.{Packet}
-use Rattle.std.specs.List.{AllByRecursion, remove}
-use Rattle.dn_world.specs.World.{Part, World, no_part, part, key_of, with_todo, ticked, opening, waiting, floor_bound}
+use Rattle.std.specs.List.{remove}
+use Rattle.dn_world.specs.World.{Part, World, no_part, part, key_of, with_todo, ticked, opening, floor_bound}
 use Rattle.dn_world.specs.Steps.{beacon, inject, arrived, deliver}
 use Rattle.dn_world.specs.Runs.{IsPast}
-use Rattle.dn_world.proofs.Parts.{all_of_get}
-use Rattle.dn_world.proofs.Past.{from_waiting, past_on, same_first, group_first, external_first}
 use Rattle.dn_router.specs.Routers.{Speculation}
 use Rattle.dn_fabric.specs.Fabrics.{Live, HasHalted, IsNetworkOf, router_of, opening_live}
 use Rattle.dn_fabric.specs.Openings.{router_before, routers_from}
@@ -70,21 +66,6 @@ module _ {X : Type 0} where
   get_mapped f [] i x d h = absurd (cc)
   get_mapped f (y ∷ ys) zero x d h = let e : y ≡ x = cc in ap f e
   get_mapped f (y ∷ ys) (suc i) x d h = get_mapped f ys i x d h
-
--- ---- keys
-
-pub tick_first : (group r : ℕ) → is_gt (key_cmp (key_of group 0) (tick group r).key) ≡ false
-unfolding key_cmp
-tick_first group r = same_first group group _ (omega arith) (same_first 0 r _ (omega arith) refl)
-
-pub tick_past : (b : Key) (group r : ℕ) → IsPast b (key_of group 0) → IsPast b (tick group r).key
-tick_past b group r p = past_on b (key_of group 0) (tick group r).key p (tick_first group r)
-
-pub group_past : (b : Key) (floor group : ℕ) → floor < group → IsPast b (key_of floor 1) → IsPast b (key_of group 0)
-group_past b floor group h p = past_on b (key_of floor 1) (key_of group 0) p (group_first (key_of floor 1) (key_of group 0) h)
-
-pub external_past : (b : Key) (floor place : ℕ) (x : External) → x.group ≡ floor → IsPast b (key_of floor 1) → IsPast b (external place x).key
-external_past b floor place x e p = past_on b (key_of floor 1) (external place x).key p (external_first floor place x (omega (arith, e)))
 
 -- ---- routers that are as before
 
@@ -398,11 +379,7 @@ module _ {S : Type 0} where
       })
       ∙ ap (λ o. record (seen h ss flight floor closed accepted boundary rows cut stopped) { world = deliver w place o }) (sym f)
 
--- ---- what waits
-
-pub packet_past : (w : World) (place : ℕ) (k : Packet) → slice_get w.flight place ≡ Some k → AllByRecursion (λ e. IsPast w.boundary e.key) (waiting w) → IsPast w.boundary k.event.key
-packet_past w place k h a =
-    all_of_get (λ p. IsPast w.boundary p.event.key) w.flight place k h (from_waiting (λ e. IsPast w.boundary e.key) w a).1
+-- ---- what may still come
 
 pub open_past : (h : Heading) (w : World) (b : Key) → w.closed ≡ false → IsPast b (floor_bound h w) → IsPast b (key_of w.floor 1)
 unfolding floor_bound

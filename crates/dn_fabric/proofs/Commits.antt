@@ -3,6 +3,7 @@ use Rattle.std.proofs.Common.{◌≡◌, ℕ, ◌+◌, ◌-◌, ◌<◌, ◌≤�
 use Rattle.std.proofs.lemmas.Bool.{eqb-true, eqb-false, ltb-true, ltb-false}
 use Rattle.std.proofs.lemmas.Option.{get_or_from_slice_get, slice_get-get_or, slice_get_within}
 use Rattle.std.proofs.lemmas.List.{length-set}
+use Rattle.std.specs.FinMap.{IsAntisymmetric}
 use Rattle.std.specs.List.Sorted.{IsPermutation, IsSorted}
 use Rattle.std.proofs.Math.Seq.{take-append-add}
 use Rattle.std.proofs.lemmas.List.{take_all, take_more, ext_get_or, get_or_default, length-map, get_or-map, get_or-set_same, get_or-set_other}
@@ -11,13 +12,12 @@ use Rattle.dn_lists.proofs.Sorting.{rises_from_sorted, in_order_is}
 use Rattle.dn_model.specs.declared.event.Event.{Event}
 use Rattle.dn_model.specs.declared.key.Key.{Key}
 use Rattle.dn_model.specs.Order.{event_cmp, event_total, sorted}
-use Rattle.dn_model.proofs.EventOrder.{event_same}
 use Rattle.dn_router.specs.Routers.{Speculation}
 use Rattle.dn_fabric.specs.Commits.{committed_to, fresh_at, fresh_of, AreAsHandled}
 
-pub sorted_is : (xs ys : List Event) → IsPermutation xs ys → IsSorted event_cmp ys → ys ≡ sorted xs
+pub sorted_is : IsAntisymmetric event_cmp → (xs ys : List Event) → IsPermutation xs ys → IsSorted event_cmp ys → ys ≡ sorted xs
 unfolding sorted
-sorted_is xs ys p s = in_order_is event_cmp event_total event_same xs ys p (rises_from_sorted event_cmp event_total ys s)
+sorted_is apart xs ys p s = in_order_is event_cmp event_total apart xs ys p (rises_from_sorted event_cmp event_total ys s)
 
 -- ---- so many of two lists
 

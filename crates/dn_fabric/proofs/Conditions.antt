@@ -1,24 +1,22 @@
 -- What there is to do: its condition holds, and that of no other answer does.
-use Rattle.std.proofs.Common.{◌≡◌, ℕ, zero, suc, ◌+◌, ◌<◌, Bool, true, false, not, ◌&&◌, List, [], ◌∷◌, length, get_or, map, refl, sym, ap, ◌∙◌, subst, arith}
+use Rattle.std.proofs.Common.{◌≡◌, ℕ, zero, suc, ◌+◌, ◌<◌, Bool, true, false, not, ◌&&◌, List, [], ◌∷◌, length, get_or, refl, sym, ap, ◌∙◌, subst, arith}
 use Rattle.std.specs.Prelude.{Option, Some, None, if◌then◌else◌, nat_lt, slice_get}
 use Rattle.std.specs.Ordering.{is_lt, is_gt}
 use Rattle.std.specs.declared.cmp.Ordering.{Ordering}
 use Rattle.std.specs.declared.cmp.Ordering.TheVariants.{Less, Equal, Greater}
 use Rattle.std.specs.Cmp.{upto, tied_itself}
 use Rattle.std.proofs.lemmas.Bool.{ltb-true, ltb-false, false≢true}
-use Rattle.std.proofs.lemmas.List.{length-map}
 use Rattle.dn_guest.specs.Meaning.{Meaning}
 use Rattle.dn_lists.proofs.Lists.{by_test}
 use Rattle.dn_lists.proofs.Sorting.{turn}
+use Rattle.dn_model.specs.declared.key.Key.{Key}
 use Rattle.dn_model.specs.declared.event.Event.{Event}
 use Rattle.dn_model.specs.Order.{key_cmp, event_cmp, key_total, event_total}
 use Rattle.dn_world.specs.declared.packet.Packet.{Packet}
 use Rattle.dn_world.specs.World.{Part, World, no_part, part, is_behind, is_ready, is_empty, is_quiet, horizon}
 use Rattle.dn_world.specs.Runs.{IsPast}
-use Rattle.dn_world.proofs.Uses.{key_same}
 use Rattle.dn_fabric.specs.declared.work.Work.{Work}
 use Rattle.dn_fabric.specs.declared.work.Work.TheVariants.{Deliver, RollBack, Handle, Commit, Nothing, Ended}
-use Rattle.dn_router.specs.Routers.{Speculation}
 use Rattle.dn_fabric.specs.Fabrics.{Fabric}
 use Rattle.dn_fabric.specs.Holds.{IsFabric}
 use Rattle.dn_fabric.proofs.Calls.{IsAhead, horizon_past}
@@ -118,14 +116,15 @@ part_at : (w : World) (r : ℕ) → get_or w.parts r no_part ≡ part w r
 unfolding part
 part_at w r = refl
 
--- there is a part for each router, and the horizon isn't below the boundary
+-- there is a part for each router, the horizon isn't below the boundary, and two keys, neither before the other, are one
 pub record IsKnown {S : Type 0} (f : Fabric S) : Type 0 where
   pub count : length f.live.world.parts ≡ length f.live.header.routers
   pub past : f.live.stopped ≡ false → IsPast f.live.world.boundary (horizon f.live.header f.live.world)
+  pub only : (a b : Key) → IsPast a b → IsPast b a → a ≡ b
 
-pub known_of : {S : Type 0} (guests : Meaning S) → IsAhead guests → (b f : Fabric S) → b ≡ f → IsFabric guests b → (rs : List (Speculation S)) → map (λ r. r.part) rs ≡ b.live.world.parts → length rs ≡ length b.live.header.routers → IsKnown f
-known_of {S} guests ahead b f same holds rs parts count =
-    subst (λ (x : Fabric S). IsKnown x) same (record { count = ap length (sym parts) ∙ length-map rs (λ r. r.part) ∙ count; past = horizon_past guests ahead b holds })
+pub known_of : {S : Type 0} (guests : Meaning S) → IsAhead guests → ((a b : Key) → IsPast a b → IsPast b a → a ≡ b) → (b f : Fabric S) → b ≡ f → IsFabric guests b → length b.live.world.parts ≡ length b.live.header.routers → IsKnown f
+known_of {S} guests ahead only b f same holds count =
+    subst (λ (x : Fabric S). IsKnown x) same (record { count = count; past = horizon_past guests ahead b holds; only = only })
 
 module _ {S : Type 0} (f : Fabric S) where
   -- ---- the free router whose least event is the least
@@ -227,7 +226,7 @@ module _ {S : Type 0} (f : Fabric S) where
     at_boundary h running =
         let w = f.live.world in
         let upper = horizon f.live.header w in
-        key_same w.boundary upper (known.past running) (sym (turn key_cmp key_total w.boundary upper) ∙ h)
+        known.only w.boundary upper (known.past running) (sym (turn key_cmp key_total w.boundary upper) ∙ h)
 
     has_end : (b q : Bool) → IsIdle f → can_commit f.live.header f.live.world ≡ b → is_quiet f.live.world ≡ q → HasWork f (if b then Commit else (if q then Ended else Nothing))
     has_end true q idle c e = (idle, c)

@@ -10,12 +10,10 @@ use Rattle.dn_lists.proofs.Sorting.{rises_from_sorted}
 use Rattle.dn_model.specs.declared.key.Key.{Key}
 use Rattle.dn_model.specs.declared.event.Event.{Event}
 use Rattle.dn_model.specs.Order.{key_cmp, event_cmp, event_total}
-use Rattle.dn_model.proofs.EventOrder.{keys_rise}
 use Rattle.dn_router.specs.Routers.{Speculation}
 use Rattle.dn_model.specs.Cases.{Heading}
 use Rattle.dn_world.specs.World.{World, least_key, waiting_at, waiting, flying, floor_bound, horizon}
 use Rattle.dn_world.specs.Runs.{IsPast}
-use Rattle.dn_world.proofs.Past.{past_on, past_same, past_trans}
 
 -- the key of the event, if any, where it is less
 abbrev pub earliest : Option Event → Key → Key
@@ -27,19 +25,24 @@ unfolding least_key
 least_stays m [] a = refl
 least_stays m (e ∷ es) a = let h = a.0 in simp h (least_stays m es a.1)
 
-first_least : (k : Key) (e : Event) (es : List Event) → AllByRecursion (λ y. is_gt (event_cmp e y) ≡ false) es → least_key k (e ∷ es) ≡ earliest (Some e) k
+-- to be a key or a later one is an order of keys, and the order of events goes with it
+pub record KeysPast : Type 0 where
+  pub onward : (a b c : Key) → IsPast a b → IsPast b c → IsPast a c
+  pub later : (x y : Event) → is_gt (event_cmp x y) ≡ false → IsPast x.key y.key
+
+first_least : KeysPast → (k : Key) (e : Event) (es : List Event) → AllByRecursion (λ y. is_gt (event_cmp e y) ≡ false) es → least_key k (e ∷ es) ≡ earliest (Some e) k
 unfolding least_key
-first_least k e es a =
-    let later = all_weaker (λ y. is_gt (event_cmp e y) ≡ false) (λ y. IsPast e.key y.key) es (λ y h. past_on e.key e.key y.key (past_same e.key) (keys_rise e y h)) a in
+first_least keys k e es a =
+    let later = all_weaker (λ y. is_gt (event_cmp e y) ≡ false) (λ y. IsPast e.key y.key) es (λ y h. keys.later e y h) a in
     by_test (is_lt (key_cmp e.key k))
     (λ g. simp g (least_stays e.key es later))
-    (λ g. simp g (least_stays k es (all_weaker (λ y. IsPast e.key y.key) (λ y. IsPast k y.key) es (λ y h. past_trans k e.key y.key g h) later)))
+    (λ g. simp g (least_stays k es (all_weaker (λ y. IsPast e.key y.key) (λ y. IsPast k y.key) es (λ y h. keys.onward k e.key y.key g h) later)))
 
 -- of a list in order the first counts
-pub least_first : (k : Key) (es : List Event) → IsSorted event_cmp es → least_key k es ≡ earliest (slice_get es 0) k
+pub least_first : KeysPast → (k : Key) (es : List Event) → IsSorted event_cmp es → least_key k es ≡ earliest (slice_get es 0) k
 unfolding least_key
-least_first k [] s = refl
-least_first k (e ∷ es) s = first_least k e es (rises_from_sorted event_cmp event_total (e ∷ es) s).0
+least_first keys k [] s = refl
+least_first keys k (e ∷ es) s = first_least keys k e es (rises_from_sorted event_cmp event_total (e ∷ es) s).0
 
 pub least_append : (k : Key) (xs ys : List Event) → least_key k (xs ++ ys) ≡ least_key (least_key k xs) ys
 unfolding least_key
@@ -47,11 +50,11 @@ least_append k [] ys = refl
 least_append k (x ∷ xs) ys = least_append (if is_lt (key_cmp x.key k) then x.key else k) xs ys
 
 -- the first of two lists in order, one after the other
-pub least_of_two : (k m n : Key) (xs ys : List Event) → IsSorted event_cmp xs → IsSorted event_cmp ys → m ≡ earliest (slice_get xs 0) k → n ≡ earliest (slice_get ys 0) m → n ≡ least_key k (xs ++ ys)
-least_of_two k m n xs ys s t h g =
+pub least_of_two : KeysPast → (k m n : Key) (xs ys : List Event) → IsSorted event_cmp xs → IsSorted event_cmp ys → m ≡ earliest (slice_get xs 0) k → n ≡ earliest (slice_get ys 0) m → n ≡ least_key k (xs ++ ys)
+least_of_two keys k m n xs ys s t h g =
     g ∙ ap (earliest (slice_get ys 0)) h
-    ∙ sym (least_first (earliest (slice_get xs 0) k) ys t)
-    ∙ ap (λ z. least_key z ys) (sym (least_first k xs s))
+    ∙ sym (least_first keys (earliest (slice_get xs 0) k) ys t)
+    ∙ ap (λ z. least_key z ys) (sym (least_first keys k xs s))
     ∙ sym (least_append k xs ys)
 
 -- ---- router by router

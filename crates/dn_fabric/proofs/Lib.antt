@@ -14,3 +14,4 @@ pub mod Commits
 pub mod Whole
 pub mod Turns
 pub mod Settling
+pub mod Errands

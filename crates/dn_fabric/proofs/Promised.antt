@@ -1,45 +1,15 @@
 -- What a fabric that is reached promises of its rows, and of its end.
 use Rattle.std.proofs.Common.{◌≡◌, ℕ, ◌<◌, ◌≤◌, true, false, List, [], ◌++◌, length, take, sym, ap, ◌∙◌, subst}
 use Rattle.std.specs.List.{filter, count_by}
-use Rattle.std.specs.List.Sorted.{IsPermutation, IsSorted}
 use Rattle.dn_model.specs.declared.key.Key.{Key}
 use Rattle.dn_model.specs.declared.event.Event.{Event}
 use Rattle.dn_model.specs.declared.feed.External.{External}
-use Rattle.dn_model.specs.Order.{event_cmp}
-use Rattle.dn_model.specs.Network.{Network, Family, injected, is_at, routers, sent, sent_to, state}
-use Rattle.dn_model.specs.Settled.{AreSame, IsPrefixOf, IsSettled, IsSettledBelow, below, due, lockstep, rows, shown_rows, is_cut}
-use Rattle.dn_model.proofs.Rows.{joined_same}
+use Rattle.dn_model.specs.Network.{Network, Family, is_at, routers, sent, state}
+use Rattle.dn_model.specs.Settled.{AreSame, IsPrefixOf, IsSettled, IsSettledBelow, below, lockstep, rows, shown_rows, is_cut}
 use Rattle.dn_world.specs.World.{World, part, dones, horizon, is_same, is_quiet}
 use Rattle.dn_world.specs.Runs.{Continues, world, committed, committed_at, committed_state, is_cut_off}
 use Rattle.dn_fabric.specs.Fabrics.{Fabric, IsReached}
 use Rattle.dn_fabric.specs.Promises.{IsFinal, AreSent, IsAtRest}
-
-module _ {S : Type 0} (net : Network S) (feed : List External) (f g : Family) (same : (r : ℕ) → r < routers net → f r ≡ g r) where
-  -- families with the same histories are settled together
-  sent_same : (r : ℕ) → sent_to net f r ≡ sent_to net g r
-  unfolding sent_to
-  sent_same r = joined_same (routers net) (λ s. filter (is_at r) (sent net s (f s))) (λ s. filter (is_at r) (sent net s (g s))) (λ s l. ap (λ es. filter (is_at r) (sent net s es)) (same s l))
-
-  due_same : (r : ℕ) → due net feed f r ≡ due net feed g r
-  unfolding due
-  due_same r = ap (λ es. injected net.header.groups feed r ++ es) (sent_same r)
-
-  pub settled_same : IsSettled net feed g → IsSettled net feed f
-  settled_same a = record {
-    sorted = λ r l. subst (IsSorted event_cmp) (sym (same r l)) (a.sorted r l);
-    complete = λ r l. subst (λ es. IsPermutation es (f r)) (sym (due_same r)) (subst (IsPermutation (due net feed g r)) (sym (same r l)) (a.complete r l));
-  }
-
-module _ {S : Type 0} (net : Network S) (feed : List External) (f g : Family) (same : (r : ℕ) → r < routers net → f r ≡ g r) where
-  pub settled_below_same : (bound : Key) → IsSettledBelow net feed bound g → IsSettledBelow net feed bound f
-  settled_below_same bound a =
-      let dues : (r : ℕ) → due net feed (λ s. below bound (f s)) r ≡ due net feed (λ s. below bound (g s)) r =
-      λ r. due_same net feed (λ s. below bound (f s)) (λ s. below bound (g s)) (λ s l. ap (below bound) (same s l)) r in
-      record {
-        sorted = λ r l. subst (λ es. IsSorted event_cmp (below bound es)) (sym (same r l)) (a.sorted r l);
-        prefix = λ r l. subst (λ es. IsPrefixOf (below bound es) es) (sym (same r l)) (a.prefix r l);
-        complete = λ r l. subst (λ es. IsPermutation (below bound es) (below bound (f r))) (sym (dues r)) (subst (λ es. IsPermutation (below bound (due net feed (λ s. below bound (g s)) r)) (below bound es)) (sym (same r l)) (a.complete r l));
-      }
 
 -- the world that the journal reaches is the fabric's, and rows and cut are those of that world
 module _ {S : Type 0} (net : Network S) (f : Fabric S) (reached : IsReached net f) where
@@ -83,6 +53,11 @@ module _ {S : Type 0} (net : Network S) (f : Fabric S) (reached : IsReached net 
         (just e message (uncut_there uncut) (subst (λ es. 0 < count_by (is_same e) es) (sym rows_there) some));
   }
 
+-- families with the same histories are settled together
+pub record Same {S : Type 0} (net : Network S) (feed : List External) : Type 0 where
+  pub settled : (f g : Family) → AreSame net feed f g → IsSettled net feed g → IsSettled net feed f
+  pub settled_below : (bound : Key) (f g : Family) → AreSame net feed f g → IsSettledBelow net feed bound g → IsSettledBelow net feed bound f
+
 -- a world at rest, with what is known of its run
 pub record Rests {S : Type 0} (net : Network S) (w : World) : Type 0 where
   pub voids : (r : ℕ) → r < routers net → (part w r).voids ≡ []
@@ -95,15 +70,15 @@ pub record Rests {S : Type 0} (net : Network S) (w : World) : Type 0 where
   pub no_other_below : (bound : Key) (g : Family) → IsSettledBelow net w.accepted bound g → (r : ℕ) → r < routers net → below bound (g r) ≡ below bound (lockstep net w.accepted r)
 
 module _ {S : Type 0} (net : Network S) (f : Fabric S) (reached : IsReached net f) where
-  pub rest_is : Rests net (world net f.journal) → IsAtRest net f.live
-  rest_is rests =
+  pub rest_is : Rests net (world net f.journal) → Same net f.live.world.accepted → IsAtRest net f.live
+  rest_is rests same =
       let a : Rests net f.live.world = subst (Rests net) reached.world rests in
       let accepted = f.live.world.accepted in
       record {
         voids = a.voids;
         done = a.done;
-        settled = settled_same net accepted (dones f.live.world) (lockstep net accepted) a.done a.settled;
-        settled_below = λ bound. settled_below_same net accepted (dones f.live.world) (lockstep net accepted) a.done bound (a.settled_below bound);
+        settled = same.settled (dones f.live.world) (lockstep net accepted) a.done a.settled;
+        settled_below = λ bound. same.settled_below bound (dones f.live.world) (lockstep net accepted) a.done (a.settled_below bound);
         no_other = λ g b r l. a.no_other g b r l ∙ sym (a.done r l);
         no_other_below = λ bound g b r l. a.no_other_below bound g b r l ∙ ap (below bound) (sym (a.done r l));
         rows = λ e. reached.rows ∙ a.rows e;

@@ -6,7 +6,6 @@ use Rattle.std.proofs.lemmas.Bool.{ltb-true}
 use Rattle.std.proofs.lemmas.List.{take_all, take_more, length-map, get_or-map}
 use Rattle.std.proofs.lemmas.Option.{get_or_from_slice_get, slice_get_within}
 use Rattle.dn_guest.specs.Meaning.{Meaning}
-use Rattle.dn_lists.proofs.Lists.{all_append}
 use Rattle.dn_model.specs.declared.event.Event.{Event}
 use Rattle.dn_model.specs.declared.feed.External.{External}
 use Rattle.dn_model.specs.declared.key.Key.{Key}
@@ -17,10 +16,9 @@ use Rattle.dn_model.specs.Settled.{below, row_limit}
 use Rattle.dn_router.specs.Routers.{Speculation}
 use Rattle.dn_world.specs.declared.packet.Packet.{Packet}
 use Rattle.dn_world.specs.declared.step.Step.TheVariants.{Commit}
-use Rattle.dn_world.specs.Runs.{IsPast, fresh_rows}
+use Rattle.dn_world.specs.Runs.{IsPast, IsAllPast, fresh_rows}
 use Rattle.dn_world.specs.Steps.{after}
 use Rattle.dn_world.specs.World.{World, part, horizon, waiting}
-use Rattle.dn_world.proofs.Past.{from_waiting, horizon_past, waits_at}
 use Rattle.dn_fabric.specs.Commits.{committed_to, fresh_of, AreAsHandled}
 use Rattle.dn_fabric.proofs.Commits.{Keeps, fresh_none, fresh_push, same_lists}
 use Rattle.dn_fabric.proofs.Turns.{live_of, world_of}
@@ -30,6 +28,10 @@ some_at : {X : Type 0} (xs : List X) (i : ℕ) → i < length xs → (x : X) × 
 some_at [] i l = absurd (omega (arith, l))
 some_at (x ∷ xs) zero l = (x, refl)
 some_at (x ∷ xs) (suc i) l = some_at xs i (omega (arith, l))
+
+-- where nothing that waits in a world is before a bound, nothing that waits at a router is
+abbrev pub WaitAt : Type 0
+WaitAt = (bound : Key) (w : World) (r : ℕ) → AllByRecursion (λ e. IsPast bound e.key) (waiting w) → AllByRecursion (λ e. IsPast bound e.key) ((part w r).todo ++ (part w r).voids)
 
 module _ {S : Type 0} where
   -- ---- what no commit changes
@@ -66,14 +68,12 @@ module _ {S : Type 0} where
 
   -- ---- nothing that waits is below the horizon
 
-  pub waits_past : (m : Meaning S) (h : Heading) (w : World) (rs : List (Speculation S)) (key : Key) → w.parts ≡ map (λ r. r.part) rs → key ≡ horizon h w → (r : ℕ) (s : Speculation S) → slice_get rs r ≡ Some s → AllByRecursion (λ e. IsPast key e.key) (s.part.todo ++ s.part.voids)
-  waits_past m h w rs key ps e r s g =
+  pub waits_past : ((net : Network S) (w : World) → IsAllPast net (horizon net.header w) w) → WaitAt → (m : Meaning S) (h : Heading) (w : World) (rs : List (Speculation S)) (key : Key) → w.parts ≡ map (λ r. r.part) rs → key ≡ horizon h w → (r : ℕ) (s : Speculation S) → slice_get rs r ≡ Some s → AllByRecursion (λ e. IsPast key e.key) (s.part.todo ++ s.part.voids)
+  waits_past lower wait m h w rs key ps e r s g =
       let net : Network S = record { header = h; guests = m; opening = λ _. s.opening.guest } in
-      let all : AllByRecursion (λ e. IsPast key e.key) (waiting w) = subst (λ k. AllByRecursion (λ e. IsPast k e.key) (waiting w)) (sym e) (horizon_past net w).waiting in
-      let at = waits_at (λ e. IsPast key e.key) w r (from_waiting (λ e. IsPast key e.key) w all) in
+      let all : AllByRecursion (λ e. IsPast key e.key) (waiting w) = subst (λ k. AllByRecursion (λ e. IsPast k e.key) (waiting w)) (sym e) (lower net w).waiting in
       let same = part_at w rs r s ps (slice_get_within rs r s g) (sym (get_or_from_slice_get rs r s s g)) in
-      subst (λ p. AllByRecursion (λ e. IsPast key e.key) (p.todo ++ p.voids)) (sym same)
-      (all_append (λ e. IsPast key e.key) (part w r).todo (part w r).voids at.0 at.1)
+      subst (λ p. AllByRecursion (λ e. IsPast key e.key) (p.todo ++ p.voids)) (sym same) (wait key w r all)
 
   -- ---- the fresh rows
 

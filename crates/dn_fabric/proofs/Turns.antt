@@ -3,21 +3,20 @@ use Rattle.std.proofs.Common.{◌≡◌, ℕ, zero, suc, ◌<◌, Bool, true, fa
 use Rattle.std.specs.List.{AllByRecursion}
 use Rattle.std.proofs.lemmas.Bool.{and_parts, not-true}
 use Rattle.dn_guest.specs.Meaning.{Meaning}
+use Rattle.dn_guest.specs.declared.node.Node.{Node}
 use Rattle.dn_model.specs.declared.event.Event.{Event}
 use Rattle.dn_model.specs.declared.feed.External.{External}
 use Rattle.dn_model.specs.declared.key.Key.{Key}
 use Rattle.dn_model.specs.Cases.{Heading, timing_of}
 use Rattle.dn_model.specs.Links.{ends}
-use Rattle.dn_model.specs.Network.{Network, sent_from, state}
+use Rattle.dn_model.specs.Network.{Network, opening_node, sent_from, state}
 use Rattle.dn_router.specs.Orders.{Task}
-use Rattle.dn_router.specs.Replays.{emitted_at, emitted_over}
+use Rattle.dn_router.specs.Replays.{node_over, emitted_at, emitted_over}
 use Rattle.dn_router.specs.Routers.{Speculation, IsCurrent, handled_first, handled, rolled_back, emits_first, emits_next, unsent}
-use Rattle.dn_router.proofs.Network.{node_is, emits_is, sent_is}
 use Rattle.dn_world.specs.declared.packet.Packet.{Packet}
 use Rattle.dn_world.specs.declared.step.Step.TheVariants.{Handle, RollBack}
 use Rattle.dn_world.specs.World.{Part, World, part, is_empty, is_ready, is_behind}
-use Rattle.dn_world.specs.Steps.{after, emits, handle, kept, roll_back, signed, taken_off, is_wrong}
-use Rattle.dn_world.proofs.Parts.{all_since}
+use Rattle.dn_world.specs.Steps.{after, emits, handle, kept, roll_back, signed, taken_off}
 use Rattle.dn_fabric.specs.Fabrics.{Live, IsNetworkOf, router_of}
 use Rattle.dn_fabric.specs.Holds.{IsWhole}
 use Rattle.dn_fabric.proofs.Whole.{router_is, guests_set, parts_set}
@@ -26,29 +25,40 @@ has_todo : (p : Part) → is_ready p ≡ true → is_empty p.todo ≡ false
 unfolding is_ready
 has_todo p h = not-true (is_empty p.todo) (and_parts (not (is_behind p)) (not (is_empty p.todo)) h).1
 
+-- a router's nodes and sendings are its network's
+pub record Handles {S : Type 0} (net : Network S) (r : ℕ) : Type 0 where
+  pub node : (history : List Event) → node_over net.guests (opening_node net r) history ≡ state net r history
+  pub emits : (history : List Event) (e : Event) → e.router ≡ r → emitted_at net.guests (timing_of net.header) (ends net.header.links r) (state net r history) e ≡ emits net r history e
+
+-- and so are those of what it takes off, which is its own
+pub record RollsBack {S : Type 0} (net : Network S) (r : ℕ) : Type 0 where
+  pub node : (history : List Event) → node_over net.guests (opening_node net r) history ≡ state net r history
+  pub sent : (node : Node S) (history : List Event) → AllByRecursion (λ e. e.router ≡ r) history → emitted_over net.guests (timing_of net.header) (ends net.header.links r) node history ≡ sent_from net node history
+  pub own : (p : Part) → AllByRecursion (λ e. e.router ≡ r) p.done → AllByRecursion (λ e. e.router ≡ r) (taken_off net p)
+
 module _ {S : Type 0} (net : Network S) (w : World) (i : ℕ) where
   -- ---- the world's step, by what the network's router emits
 
-  handle_is : (es events : List Event) → is_empty es ≡ false → AllByRecursion (λ e. e.router ≡ i) es → events ≡ emits_first net.guests (router_of net w i) es → handle net w i (part w i) es ≡ record w { parts = set w.parts i (handled_first (part w i) es); flight = w.flight ++ signed true events }
+  handle_is : Handles net i → (es events : List Event) → is_empty es ≡ false → AllByRecursion (λ e. e.router ≡ i) es → events ≡ emits_first net.guests (router_of net w i) es → handle net w i (part w i) es ≡ record w { parts = set w.parts i (handled_first (part w i) es); flight = w.flight ++ signed true events }
   unfolding handle
-  handle_is [] events n own h = absurd (cc)
-  handle_is (e ∷ es) events n own h =
+  handle_is tied [] events n own h = absurd (cc)
+  handle_is tied (e ∷ es) events n own h =
       let p = part w i in
-      let sent : events ≡ emits net i p.done e = h ∙ ap (λ node. emitted_at net.guests (timing_of net.header) (ends net.header.links i) node e) (node_is net i p.done) ∙ emits_is net i p.done e own.0 in
+      let sent : events ≡ emits net i p.done e = h ∙ ap (λ node. emitted_at net.guests (timing_of net.header) (ends net.header.links i) node e) (tied.node p.done) ∙ tied.emits p.done e own.0 in
       λ j. record w { parts = set w.parts i (record p { done = p.done ++ e ∷ []; todo = es }); flight = w.flight ++ signed true (sym sent j) }
 
-  after_handle : (events : List Event) → is_ready (part w i) ≡ true → AllByRecursion (λ e. e.router ≡ i) (part w i).todo → events ≡ emits_next net.guests (router_of net w i) → after net w (Handle i) ≡ record w { parts = set w.parts i (handled (part w i)); flight = w.flight ++ signed true events }
+  after_handle : Handles net i → (events : List Event) → is_ready (part w i) ≡ true → AllByRecursion (λ e. e.router ≡ i) (part w i).todo → events ≡ emits_next net.guests (router_of net w i) → after net w (Handle i) ≡ record w { parts = set w.parts i (handled (part w i)); flight = w.flight ++ signed true events }
   unfolding after
-  after_handle events ready own h = handle_is (part w i).todo events (has_todo (part w i) ready) own h
+  after_handle tied events ready own h = handle_is tied (part w i).todo events (has_todo (part w i) ready) own h
 
-  after_roll_back : (events : List Event) → AllByRecursion (λ e. e.router ≡ i) (part w i).done → events ≡ unsent net.guests (router_of net w i) → after net w (RollBack i) ≡ record w { parts = set w.parts i (rolled_back (part w i)); flight = w.flight ++ signed false events }
+  after_roll_back : RollsBack net i → (events : List Event) → AllByRecursion (λ e. e.router ≡ i) (part w i).done → events ≡ unsent net.guests (router_of net w i) → after net w (RollBack i) ≡ record w { parts = set w.parts i (rolled_back (part w i)); flight = w.flight ++ signed false events }
   unfolding after roll_back
-  after_roll_back events own h =
+  after_roll_back tied events own h =
       let p = part w i in
       let off = taken_off net p in
       let sent : events ≡ sent_from net (state net i (kept net p)) off = h
-      ∙ ap (λ node. emitted_over net.guests (timing_of net.header) (ends net.header.links i) node off) (node_is net i (kept net p))
-      ∙ sent_is net i (state net i (kept net p)) off (all_since (λ e. e.router ≡ i) (is_wrong p) p.done own) in
+      ∙ ap (λ node. emitted_over net.guests (timing_of net.header) (ends net.header.links i) node off) (tied.node (kept net p))
+      ∙ tied.sent (state net i (kept net p)) off (tied.own p own) in
       λ j. record w { parts = set w.parts i (rolled_back p); flight = w.flight ++ signed false (sym sent j) }
 
 set_back : {X : Type 0} (xs : List X) (i : ℕ) (x : X) → x ≡ get_or xs i x → set xs i x ≡ xs
@@ -92,13 +102,13 @@ module _ {S : Type 0} (net : Network S) (m : Meaning S) (h : Heading) (rs : List
       (λ j. record { header = h; openings = gs j; world = record { parts = ps j; flight = is_sent j; floor = floor; closed = closed; accepted = accepted; boundary = b }; rows = rows; cut = cut; stopped = is_u j })
       ∙ ap (λ x. record (live_of h rs here rows cut t) { world = x }) (sym is_next)
 
-  pub handled_is : (task : Task S) (events : List Event) (new : Speculation S) (sent : List Packet) (u : Bool) → IsCurrent m s task → new ≡ record s { part = handled s.part } → events ≡ emits_next m s → AllByRecursion (λ e. e.router ≡ s.number) s.part.todo → sent ≡ flight ++ signed true events → u ≡ t → IsCurrent net.guests (router_of net here i) task × (live_of h (set rs i new) (world_of (set rs i new) sent floor closed accepted b) rows cut u ≡ record (live_of h rs here rows cut t) { world = after net here (Handle i) })
-  handled_is task events new sent u c is_new is_events own is_sent is_u =
+  pub handled_is : Handles net i → (task : Task S) (events : List Event) (new : Speculation S) (sent : List Packet) (u : Bool) → IsCurrent m s task → new ≡ record s { part = handled s.part } → events ≡ emits_next m s → AllByRecursion (λ e. e.router ≡ s.number) s.part.todo → sent ≡ flight ++ signed true events → u ≡ t → IsCurrent net.guests (router_of net here i) task × (live_of h (set rs i new) (world_of (set rs i new) sent floor closed accepted b) rows cut u ≡ record (live_of h rs here rows cut t) { world = after net here (Handle i) })
+  handled_is tied task events new sent u c is_new is_events own is_sent is_u =
       let ordered = to_ordered task c in
       let ready : is_ready (part here i) ≡ true = ordered.0 in
       let todo : AllByRecursion (λ e. e.router ≡ i) (part here i).todo = subst (λ (p : Part). AllByRecursion (λ e. e.router ≡ i) p.todo) part_same (subst (λ (n : ℕ). AllByRecursion (λ e. e.router ≡ n) s.part.todo) own_number own) in
       let emitted : events ≡ emits_next net.guests (router_of net here i) = is_events ∙ ap (λ x. emits_next m x) same ∙ ap (λ g. emits_next g (router_of net here i)) (sym of.guests) in
-      let next = after_handle net here i events ready todo emitted in
+      let next = after_handle net here i tied events ready todo emitted in
       let moved : handled s.part ≡ handled (part here i) = ap handled part_same in (
         ordered,
         step_is new (handled (part here i)) true events (after net here (Handle i)) sent u (is_new ∙ ap (λ p. record s { part = p }) moved) next is_sent is_u,
@@ -111,10 +121,10 @@ module _ {S : Type 0} (net : Network S) (m : Meaning S) (h : Heading) (rs : List
         ∙ ap (λ z. live_of h rs here rows cut z) is_u,
   )
 
-  pub rolled_is : (events : List Event) (new : Speculation S) (sent : List Packet) (u : Bool) → new ≡ record s { part = rolled_back s.part } → events ≡ unsent m s → AllByRecursion (λ e. e.router ≡ s.number) s.part.done → sent ≡ flight ++ signed false events → u ≡ t → live_of h (set rs i new) (world_of (set rs i new) sent floor closed accepted b) rows cut u ≡ record (live_of h rs here rows cut t) { world = after net here (RollBack i) }
-  rolled_is events new sent u is_new is_events own is_sent is_u =
+  pub rolled_is : RollsBack net i → (events : List Event) (new : Speculation S) (sent : List Packet) (u : Bool) → new ≡ record s { part = rolled_back s.part } → events ≡ unsent m s → AllByRecursion (λ e. e.router ≡ s.number) s.part.done → sent ≡ flight ++ signed false events → u ≡ t → live_of h (set rs i new) (world_of (set rs i new) sent floor closed accepted b) rows cut u ≡ record (live_of h rs here rows cut t) { world = after net here (RollBack i) }
+  rolled_is tied events new sent u is_new is_events own is_sent is_u =
       let done : AllByRecursion (λ e. e.router ≡ i) (part here i).done = subst (λ (p : Part). AllByRecursion (λ e. e.router ≡ i) p.done) part_same (subst (λ (n : ℕ). AllByRecursion (λ e. e.router ≡ n) s.part.done) own_number own) in
       let gone : events ≡ unsent net.guests (router_of net here i) = is_events ∙ ap (λ x. unsent m x) same ∙ ap (λ g. unsent g (router_of net here i)) (sym of.guests) in
-      let next = after_roll_back net here i events done gone in
+      let next = after_roll_back net here i tied events done gone in
       let moved : rolled_back s.part ≡ rolled_back (part here i) = ap rolled_back part_same in
       step_is new (rolled_back (part here i)) false events (after net here (RollBack i)) sent u (is_new ∙ ap (λ p. record s { part = p }) moved) next is_sent is_u

@@ -1,14 +1,18 @@
 -- What there is to do, found router by router.
 use Rattle.std.proofs.Common.{◌≡◌, ℕ, zero, suc, ◌+◌, ◌<◌, ◌≤◌, Bool, true, false, not, ◌&&◌, List, [], ◌∷◌, length, get_or, drop, map, refl, sym, ap, ◌∙◌, arith}
-use Rattle.std.specs.Prelude.{Option, Some, None, option_map, if◌then◌else◌}
+use Rattle.std.specs.Prelude.{Option, Some, None, if◌then◌else◌}
 use Rattle.std.specs.Ordering.{is_gt}
 use Rattle.dn_model.specs.declared.event.Event.{Event}
 use Rattle.dn_model.specs.Order.{key_cmp}
 use Rattle.dn_world.specs.declared.packet.Packet.{Packet}
 use Rattle.dn_world.specs.World.{Part, World, is_behind, is_ready, is_empty, are_quiet, is_quiet, horizon}
 use Rattle.dn_router.specs.Routers.{Speculation}
+use Rattle.dn_fabric.specs.declared.asking.Asked.{Asked}
+use Rattle.dn_fabric.specs.declared.asking.Asked.TheVariants as asked
+use Rattle.dn_fabric.specs.declared.work.Work.{Work}
 use Rattle.dn_fabric.specs.declared.work.Work.TheVariants.{Deliver, RollBack, Handle, Commit, Nothing, Ended}
 use Rattle.dn_fabric.specs.Fabrics.{Fabric}
+use Rattle.dn_fabric.specs.Rosters.{asked_of, asked_by}
 use Rattle.dn_fabric.specs.Work.{first_behind, earlier_of, least_ready, can_commit, committing, handling, rolling_back, delivering, next_work}
 
 -- a list from a place on
@@ -145,36 +149,31 @@ module _ {S : Type 0} (f : Fabric S) where
     unfolding next_work
     not_flying = ap (delivering f) (sym (none_flies f.live.world.flight calm))
 
-    pub to_roll_back : (r : ℕ) → Some r ≡ first_behind 0 f.live.world.parts → RollBack r ≡ next_work f
-    to_roll_back r e = ap (rolling_back f) e ∙ not_flying
+    -- what the routers ask for first, or else what there is when they ask for nothing
+    abbrev pub answered : Asked → Work
+    answered (asked.RollBack r) = RollBack r
+    answered (asked.Handle r) = Handle r
+    answered asked.Nothing = committing f
 
-    module _ (none : None ≡ first_behind 0 f.live.world.parts) where
-      not_behind : handling f (least_ready 0 f.live.world.parts f.leased None) ≡ next_work f
-      not_behind = ap (rolling_back f) none ∙ not_flying
+    asked_ready : (o : Option (ℕ × Event)) → answered (asked_of None o) ≡ handling f o
+    asked_ready None = refl
+    asked_ready (Some found) = refl
 
-      found_handling : (r : ℕ) (o : Option (ℕ × Event)) → Some r ≡ option_map (λ found. found.0) o → Handle r ≡ handling f o
-      found_handling r None e = absurd (cc)
-      found_handling r (Some found) e = let at : r ≡ found.0 = cc in ap Handle at
+    asked_first : (b : Option ℕ) → answered (asked_of b (least_ready 0 f.live.world.parts f.leased None)) ≡ rolling_back f b
+    asked_first None = asked_ready (least_ready 0 f.live.world.parts f.leased None)
+    asked_first (Some r) = refl
 
-      pub to_handle : (r : ℕ) → Some r ≡ option_map (λ found. found.0) (least_ready 0 f.live.world.parts f.leased None) → Handle r ≡ next_work f
-      to_handle r e = found_handling r (least_ready 0 f.live.world.parts f.leased None) e ∙ not_behind
+    pub to_answer : (a : Asked) → a ≡ asked_by f.live.world.parts f.leased → answered a ≡ next_work f
+    to_answer a e = ap answered e ∙ asked_first (first_behind 0 f.live.world.parts) ∙ not_flying
 
-      no_handling : (o : Option (ℕ × Event)) → None ≡ option_map (λ found. found.0) o → committing f ≡ handling f o
-      no_handling None e = refl
-      no_handling (Some found) e = absurd (cc)
+  commits : (b : Bool) → b ≡ is_gt (key_cmp (horizon f.live.header f.live.world) f.live.world.boundary) → (if b then Commit else (if is_quiet f.live.world then Ended else Nothing)) ≡ committing f
+  unfolding committing can_commit
+  commits b e = ap (λ x. if x then Commit else (if is_quiet f.live.world then Ended else Nothing)) e
 
-      module _ (unready : None ≡ option_map (λ found. found.0) (least_ready 0 f.live.world.parts f.leased None)) where
-        not_ready : committing f ≡ next_work f
-        not_ready = no_handling (least_ready 0 f.live.world.parts f.leased None) unready ∙ not_behind
+  pub to_commit : (b : Bool) → b ≡ is_gt (key_cmp (horizon f.live.header f.live.world) f.live.world.boundary) → b ≡ true → Commit ≡ committing f
+  to_commit b e holds = ap (λ x. if x then Commit else (if is_quiet f.live.world then Ended else Nothing)) (sym holds) ∙ commits b e
 
-        commits : (b : Bool) → b ≡ is_gt (key_cmp (horizon f.live.header f.live.world) f.live.world.boundary) → (if b then Commit else (if is_quiet f.live.world then Ended else Nothing)) ≡ committing f
-        unfolding committing can_commit
-        commits b e = ap (λ x. if x then Commit else (if is_quiet f.live.world then Ended else Nothing)) e
-
-        pub to_commit : (b : Bool) → b ≡ is_gt (key_cmp (horizon f.live.header f.live.world) f.live.world.boundary) → b ≡ true → Commit ≡ next_work f
-        to_commit b e holds = ap (λ x. if x then Commit else (if is_quiet f.live.world then Ended else Nothing)) (sym holds) ∙ commits b e ∙ not_ready
-
-        pub to_end : (b q : Bool) → b ≡ is_gt (key_cmp (horizon f.live.header f.live.world) f.live.world.boundary) → b ≡ false → q ≡ is_quiet f.live.world → (if q then Ended else Nothing) ≡ next_work f
-        to_end b q e fails quiet =
-            ap (λ x. if x then Ended else Nothing) quiet
-            ∙ ap (λ x. if x then Commit else (if is_quiet f.live.world then Ended else Nothing)) (sym fails) ∙ commits b e ∙ not_ready
+  pub to_end : (b q : Bool) → b ≡ is_gt (key_cmp (horizon f.live.header f.live.world) f.live.world.boundary) → b ≡ false → q ≡ is_quiet f.live.world → (if q then Ended else Nothing) ≡ committing f
+  to_end b q e fails quiet =
+      ap (λ x. if x then Ended else Nothing) quiet
+      ∙ ap (λ x. if x then Commit else (if is_quiet f.live.world then Ended else Nothing)) (sym fails) ∙ commits b e

@@ -8,3 +8,4 @@ pub mod Driven
 pub mod Work
 pub mod Commits
 pub mod Signs
+pub mod Rosters

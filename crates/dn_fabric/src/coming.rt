@@ -1,7 +1,7 @@
 //! What comes to routers: ticks, externals and packets (the steps Beacon, Inject, Close and Deliver of a
 //! world).
 
-ghost use Rattle.std.specs.Prelude.{ℕ, ◌≡◌, ◌<◌, ◌≤◌, ◌+◌, ◌++◌, ◌∷◌, [], true, false, length, slice_get, Some, OnOk, OnErr};
+ghost use Rattle.std.specs.Prelude.{ℕ, ◌≡◌, ◌<◌, ◌≤◌, ◌+◌, ◌++◌, ◌∷◌, [], true, false, length, set, slice_get, Some, OnOk, OnErr};
 ghost use Rattle.std.specs.List.{AllByRecursion};
 ghost use Rattle.dn_model.specs.Network.{external};
 ghost use Rattle.dn_router.specs.Routers.{Speculation};
@@ -11,10 +11,10 @@ ghost use Rattle.dn_world.specs.Runs.{IsPast};
 ghost use Rattle.dn_fabric.specs.Coming.{all_ticked, AreAsBefore};
 ghost use Rattle.dn_fabric.specs.Fabrics.{HasHalted};
 
+use crate::roster::Roster;
 use crate::world::{World, marking};
 use dn_guest::{Guest, NoMemory};
 use dn_model::{Event, External};
-use dn_router::Router;
 use std::alloc::Global;
 
 impl<G: Guest> World<G> {
@@ -27,8 +27,9 @@ impl<G: Guest> World<G> {
         ensures ok { OnOk result (self.new ≡ record self.old { world = beacon self.old.world }) }
         ensures err { OnErr result (HasHalted self.old self.new) }
     {
+        dn_world::laws::new_keys();
         let group = self.floor + 1;
-        let ticked = tick_all(self.routers.as_mut_slice(), group);
+        let ticked = tick_all(&mut self.routers, group);
         marking(&mut self.stopped, ticked)?;
         self.floor = group;
         Ok(())
@@ -44,9 +45,9 @@ impl<G: Guest> World<G> {
         ensures ok { OnOk result (self.new ≡ record self.old { world = inject self.old.world coming }) }
         ensures err { OnErr result (HasHalted self.old self.new) }
     {
+        dn_world::laws::new_keys();
         let place = self.accepted.len() as u64;
-        let router = &mut self.routers[usize::from(coming.router)];
-        let brought = bring(self.alloc, router, place, &coming);
+        let brought = bring(self.alloc, &mut self.routers, place, &coming);
         marking(&mut self.stopped, brought)?;
         let accepted = accept(&mut self.accepted, coming);
         marking(&mut self.stopped, accepted)
@@ -69,18 +70,19 @@ impl<G: Guest> World<G> {
             record self.old { world = deliver self.old.world place (slice_get self.old.world.flight place) }) }
         ensures err { OnErr result (HasHalted self.old self.new) }
     {
+        dn_world::laws::waiting();
         let packet = self.flight.take(place);
         let router = usize::from(packet.event.router);
         if router >= self.routers.len() {
             return Ok(());
         }
-        let arrived = self.routers[router].arrive(packet.plus, packet.event);
+        let arrived = self.routers.arrive(router, packet.plus, packet.event);
         marking(&mut self.stopped, arrived)
     }
 }
 
 /// The tick of a group comes to each router.
-fn tick_all<G: Guest>(routers: &mut [Router<G>], group: u32) -> Result<(), NoMemory>
+fn tick_all<G: Guest>(routers: &mut Roster<G>, group: u32) -> Result<(), NoMemory>
     requires numbers { (r : ℕ) (router : Speculation G) → slice_get routers.old r ≡ Some router → router.number ≡ r }
     requires past { (r : ℕ) (router : Speculation G) → slice_get routers.old r ≡ Some router →
         IsPast router.bound (key_of group 0) }
@@ -88,8 +90,9 @@ fn tick_all<G: Guest>(routers: &mut [Router<G>], group: u32) -> Result<(), NoMem
     ensures ok { OnOk result (routers.new ≡ all_ticked group 0 routers.old) }
     ensures err { OnErr result (AreAsBefore routers.old routers.new) }
 {
+    dn_world::laws::new_keys();
     for number in 0..routers.len() {
-        routers[number].arrive(true, Event::tick(group, number as u16))?;
+        routers.arrive(number, true, Event::tick(group, number as u16))?;
     }
     Ok(())
 }
@@ -97,18 +100,21 @@ fn tick_all<G: Guest>(routers: &mut [Router<G>], group: u32) -> Result<(), NoMem
 /// The external comes to its router.
 fn bring<G: Guest>(
     alloc: Global,
-    router: &mut Router<G>,
+    routers: &mut Roster<G>,
     place: u64,
     coming: &External,
 ) -> Result<(), NoMemory>
-    requires own { coming.now.router ≡ router.old.number }
-    requires past { IsPast router.old.bound (external place coming.now).key }
-    ensures ok { OnOk result (router.new ≡
-        record router.old { part = with_todo (external place coming.now ∷ []) router.old.part }) }
-    ensures err { OnErr result (router.new ≡ router.old) }
+    requires inside { coming.now.router < length routers.old }
+    requires own { (s : Speculation G) → slice_get routers.old coming.now.router ≡ Some s → coming.now.router ≡ s.number }
+    requires past { (s : Speculation G) → slice_get routers.old coming.now.router ≡ Some s →
+        IsPast s.bound (external place coming.now).key }
+    ensures ok { (s : Speculation G) → slice_get routers.old coming.now.router ≡ Some s → OnOk result (routers.new ≡
+        set routers.old coming.now.router
+        (record s { part = with_todo (external place coming.now ∷ []) s.part })) }
+    ensures err { OnErr result (routers.new ≡ routers.old) }
 {
     let event = Event::external(alloc, place, coming)?;
-    router.arrive(true, event)
+    routers.arrive(usize::from(coming.router), true, event)
 }
 
 /// One external more.

@@ -25,7 +25,7 @@ impl<G: Guest> World<G> {
     pub(crate) fn horizon(&self) -> Key
         ensures { result ≡ horizon self.now.header self.now.world }
     {
-        let least = least_of(self.routers.as_slice(), self.floor_bound());
+        let least = self.routers.least_key(self.floor_bound());
         self.flight.least_key(least)
     }
 
@@ -62,8 +62,10 @@ impl<G: Guest> World<G> {
             }) }
         ensures err { OnErr result (HasHalted self.old self.new) }
     {
+        dn_world::laws::horizon::<G>();
+        dn_world::laws::waiting();
         let horizon = self.horizon();
-        let fresh = commit_all(self.alloc, self.routers.as_mut_slice(), &horizon);
+        let fresh = self.routers.commit_below(self.alloc, &horizon);
         let fresh = marking(&mut self.stopped, fresh)?;
         self.boundary = horizon;
         let limit = row_limit(&self.header);
@@ -74,34 +76,9 @@ impl<G: Guest> World<G> {
     }
 }
 
-/// The least of the key and those of what waits at the routers.
-fn least_of<G: Guest>(routers: &[Router<G>], key: Key) -> Key
-    ensures { result ≡ least_key key (waiting_at (map (λ r. r.part) routers.now)) }
-{
-    let mut least = key;
-    for router in routers {
-        least = least_at(router, least);
-    }
-    least
-}
-
-/// The least of the key and those of what waits at the router.
-fn least_at<G: Guest>(router: &Router<G>, key: Key) -> Key
-    ensures { result ≡ least_key key (router.now.part.todo ++ router.now.part.voids) }
-{
-    let least = match router.least() {
-        Some(event) => earlier(event.key, key),
-        None => key,
-    };
-    match router.voids().first() {
-        Some(event) => earlier(event.key, least),
-        None => least,
-    }
-}
-
 /// What each router has handled below the key and wasn't committed before, router by router. After
 /// `NoMemory` some of them have committed.
-fn commit_all<G: Guest>(
+pub(crate) fn commit_all<G: Guest>(
     alloc: Global,
     routers: &mut [Router<G>],
     key: &Key,
@@ -126,6 +103,7 @@ fn commit_all<G: Guest>(
 fn in_order(rows: Vec<Row>) -> Vec<Row>
     ensures { result.items ≡ sorted rows.items }
 {
+    dn_model::laws::order_of_events();
     let mut rows = rows;
     rows.sort_unstable();
     rows
@@ -146,11 +124,4 @@ fn add_rows(rows: &mut Vec<Row>, fresh: Vec<Row>, limit: u64) -> Result<bool, No
     }
     rows.append(&mut shown)?;
     Ok(more)
-}
-
-/// The lesser of two keys.
-fn earlier(key: Key, than: Key) -> Key
-    ensures { result ≡ (if is_lt (key_cmp key than) then key else than) }
-{
-    if key < than { key } else { than }
 }

@@ -36,7 +36,7 @@ impl<G: Guest> Model for Fabric<G> {
     ghost invariant = { λ f. IsFabric G.meaning (record { live = f.world; journal = f.journal.items; leased = f.leased.items }) };
 }
 
-impl<G: Guest> Kept for Fabric<G> {
+impl<G: Guest + Sync> Kept for Fabric<G> {
     ghost use Rattle.std.specs.Prelude.{refl};
     ghost use Rattle.dn_fabric.specs.Fabrics.{log_in};
 

@@ -34,7 +34,8 @@ impl<G: Guest> World<G> {
             IfOk result (λ finished. HasHandled net self.old outcome finished self.new) }
         ensures err { OnErr result (HasHalted self.old self.new) }
     {
-        let applied = self.routers[usize::from(outcome.router())].apply(outcome);
+        dn_router::laws::of_a_network::<G>();
+        let applied = self.routers.apply(outcome);
         match marking(&mut self.stopped, applied)? {
             Applied::Done(events) => {
                 let sent = self.flight.send(Sign::Plus, events);
@@ -54,7 +55,9 @@ impl<G: Guest> World<G> {
             OnOk result (self.new ≡ record self.old { world = after net self.old.world (RollBack router) }) }
         ensures err { OnErr result (HasHalted self.old self.new) }
     {
-        let unsent = self.routers[usize::from(router)].roll_back();
+        dn_router::laws::of_a_network::<G>();
+        dn_world::laws::replays::<G>();
+        let unsent = self.routers.roll_back(usize::from(router));
         let unsent = marking(&mut self.stopped, unsent)?;
         let sent = self.flight.send(Sign::Minus, unsent);
         marking(&mut self.stopped, sent)

@@ -52,6 +52,7 @@ pub fn reached_fabrics<S>()
         → is_quiet f.live.world ≡ true → IsAtRest net f.live }
 {
     dn_model::laws::one_settled_family::<S>();
+    dn_model::laws::same_families::<S>();
     dn_world::laws::playable_cases::<S>();
     dn_world::laws::runs::<S>();
     dn_world::laws::prefix::<S>();

@@ -17,6 +17,7 @@
 //! | `work.rt` | what there is to do |
 //! | `answer.rt` | what commit and finish answer |
 //! | `world.rt` | the layer below: routers and flight, without journal and leases |
+//! | `roster.rt`, `asking.rt` | the routers; what there is to do at each, and what they ask for first |
 //! | `coming.rt`, `handling.rt`, `committing.rt` | its steps: what comes to routers, what routers do, the horizon and committing |
 //! | `flight.rt` | the packets between routers |
 //! | `laws.rt` | a network of each header exists; what a stop leaves of the log; what every fabric promises, and what a step of it may count on |
@@ -37,6 +38,7 @@
 #![tactic(auto)]
 
 mod answer;
+mod asking;
 mod coming;
 mod committing;
 mod fabric;
@@ -45,6 +47,7 @@ mod handling;
 pub mod laws;
 mod leases;
 mod promises;
+mod roster;
 mod steps;
 mod work;
 mod world;

@@ -10,7 +10,6 @@ ghost use Rattle.dn_fabric.specs.Fabrics.{IsNetworkOf};
 ghost use Rattle.dn_fabric.specs.Promises.{IsFinal, AreSent, IsAtRest};
 
 use crate::fabric::Fabric;
-use crate::work::are_quiet;
 use dn_guest::{Guest, Node};
 use dn_model::Row;
 
@@ -65,7 +64,7 @@ impl<G: Guest> Fabric<G> {
         if !self.closed() || self.flying() > 0 {
             return false;
         }
-        are_quiet(self.world.routers())
+        self.world.are_quiet()
     }
 
     /// The router's node after all that it has handled: in a quiet fabric the one after its whole lockstep list.

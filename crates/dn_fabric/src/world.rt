@@ -2,11 +2,14 @@
 
 ghost use Rattle.std.specs.Prelude.{◌≡◌, ◌<◌, ◌≤◌, true, length, map, if◌then◌else◌, is_ok, IfOk};
 ghost use Rattle.dn_model.specs.Network.{Network};
-ghost use Rattle.dn_world.specs.World.{part};
+ghost use Rattle.dn_world.specs.World.{are_quiet, part};
 ghost use Rattle.dn_fabric.specs.Fabrics.{IsNetworkOf, opening_live, router_of};
 ghost use Rattle.dn_fabric.specs.Openings.{router_before, routers_from};
+ghost use Rattle.dn_fabric.specs.Rosters.{asked_by, errand_of};
 
+use crate::asking::Asked;
 use crate::flight::Flight;
+use crate::roster::{Errand, Roster};
 use dn_guest::{Guest, NoMemory};
 use dn_model::{Event, External, Header, Key, Row, ends, opening};
 use dn_router::Router;
@@ -19,7 +22,7 @@ use std::marker::Model;
 pub(crate) struct World<G: Guest> {
     pub(crate) alloc: Global,
     pub(crate) header: Header,
-    pub(crate) routers: Vec<Router<G>>,
+    pub(crate) routers: Roster<G>,
     pub(crate) flight: Flight,
     pub(crate) floor: u32,
     pub(crate) closed: bool,
@@ -39,9 +42,9 @@ impl<G: Guest> Model for World<G> {
 
     ghost Value = { Live G };
 
-    ghost view = { λ w. record { header = w.header; openings = map (λ r. r.opening.guest) w.routers.items; world = record { parts = map (λ r. r.part) w.routers.items; flight = w.flight; floor = w.floor; closed = w.closed; accepted = w.accepted.items; boundary = w.boundary }; rows = w.rows.items; cut = w.cut; stopped = w.stopped } };
+    ghost view = { λ w. record { header = w.header; openings = map (λ r. r.opening.guest) w.routers; world = record { parts = map (λ r. r.part) w.routers; flight = w.flight; floor = w.floor; closed = w.closed; accepted = w.accepted.items; boundary = w.boundary }; rows = w.rows.items; cut = w.cut; stopped = w.stopped } };
 
-    ghost invariant = { λ w. IsWhole w.header w.routers.items w.boundary w.rows.items w.cut w.stopped };
+    ghost invariant = { λ w. IsWhole w.header w.routers w.boundary w.rows.items w.cut w.stopped };
 }
 
 impl<G: Guest> World<G> {
@@ -52,7 +55,7 @@ impl<G: Guest> World<G> {
     {
         // A header's rules are known once a field of it is read.
         let _ = &header.period;
-        let routers = opening_routers(alloc, &header, guests)?;
+        let routers = Roster::of(alloc, opening_routers(alloc, &header, guests)?)?;
         Ok(World {
             alloc,
             header,
@@ -92,15 +95,31 @@ impl<G: Guest> World<G> {
               bound = result.now.bound;
             } }
     {
-        &self.routers[usize::from(number)]
+        self.routers.router(usize::from(number))
     }
 
-    /// All routers, in the order of their numbers.
-    pub(crate) fn routers(&self) -> &[Router<G>]
-        ensures parts { map (λ r. r.part) result.now ≡ self.now.world.parts }
-        ensures count { length result.now ≡ length self.now.header.routers }
+    /// What there is to do at the router with the number.
+    pub(crate) fn errand(&self, number: u16) -> &Errand
+        requires { number < length self.now.header.routers }
+        ensures { result.now ≡ errand_of (part self.now.world number) }
     {
-        self.routers.as_slice()
+        self.routers.errand(usize::from(number))
+    }
+
+    /// What the routers ask for first, where those that are leased ask for nothing.
+    pub(crate) fn asked(&self, leased: &[bool]) -> Asked
+        requires { length leased.now ≡ length self.now.header.routers }
+        ensures asked { result ≡ asked_by self.now.world.parts leased.now }
+        ensures count { length self.now.world.parts ≡ length self.now.header.routers }
+    {
+        self.routers.asked(leased)
+    }
+
+    /// Whether none of the routers is behind or has something to handle.
+    pub(crate) fn are_quiet(&self) -> bool
+        ensures { result ≡ are_quiet self.now.world.parts }
+    {
+        self.routers.are_quiet()
     }
 
     /// How many packets fly.

@@ -5,4 +5,5 @@ pub mod Meaning
 pub mod Ports
 pub mod Node
 pub mod Flood
+pub mod SharedBodies
 pub mod FloodImage

@@ -5,6 +5,7 @@ ghost use Rattle.dn_guest.specs.Flood.{flood, is_new, with_body, flooded, copies
 ghost use Rattle.dn_guest.specs.FloodImage.{same_by_image};
 ghost use Rattle.dn_guest.specs.KeepsFront.{KeepsFront};
 
+use crate::body_set::BodySet;
 use crate::hex::push_hex;
 use crate::ports::is_up;
 use crate::{Bytes, Guest, Input, Outbox};
@@ -18,7 +19,7 @@ const MOST_BODIES: usize = 65_535;
 /// The bodies that came so far, each of 1 to 255 bytes. Contracts see them as a list in ascending order.
 #[derive(Drop)]
 pub struct Flood {
-    bodies: BTreeSet<Bytes>,
+    bodies: BodySet,
 }
 
 impl Model for Flood {
@@ -27,18 +28,18 @@ impl Model for Flood {
 
     ghost Value = { List (List ℕ) };
 
-    ghost view = { λ f. f.bodies.keys };
+    ghost view = { λ f. f.bodies };
 
-    ghost invariant = { λ f. AreBodies f.bodies.keys };
+    ghost invariant = { λ f. AreBodies f.bodies };
 }
 
 impl Flood {
     /// A guest that has seen nothing. It takes no memory.
-    pub fn new(alloc: Global) -> Flood
+    pub fn new(_alloc: Global) -> Flood
         ensures { result ≡ [] }
     {
         Flood {
-            bodies: BTreeSet::new(alloc),
+            bodies: BodySet::new(),
         }
     }
 
@@ -47,7 +48,7 @@ impl Flood {
         ensures { result ≡ is_new self.now body.now }
     {
         (0 < body.len() && body.len() < 256)
-            && (self.bodies.len() < MOST_BODIES && !self.bodies.contains(body))
+            && (self.bodies.len() < MOST_BODIES && !self.bodies.has(body))
     }
 
     /// Keeps a body that is new, and puts it out on each up port but the one on which it came.
@@ -64,7 +65,7 @@ impl Flood {
     {
         if self.is_new(body) {
             put_copies(alloc, ports, from, body, out)?;
-            self.bodies.insert(body.copy(alloc)?)?;
+            self.bodies.insert(alloc, body.copy(alloc)?)?;
         }
         Ok(())
     }
@@ -121,12 +122,12 @@ impl Guest for Flood {
 
     fn fork(&self, _alloc: Global) -> Result<Self, AllocError> {
         Ok(Flood {
-            bodies: self.bodies.clone()?,
+            bodies: self.bodies.fork()?,
         })
     }
 
     fn same(&self, other: &Self) -> bool {
-        self.bodies == other.bodies
+        self.bodies.same(&other.bodies)
     }
 
     fn sort(&self) -> u8 {
@@ -134,11 +135,17 @@ impl Guest for Flood {
     }
 
     fn image(&self, _alloc: Global, out: &mut Bytes) -> Result<(), AllocError> {
-        push_image(&self.bodies, out)
+        match self.bodies.bodies() {
+            Some(bodies) => push_image(bodies, out),
+            None => out.append(&[0, 0]),
+        }
     }
 
     fn show(&self, _alloc: Global, out: &mut Bytes) -> Result<(), AllocError> {
-        push_show(&self.bodies, out)
+        match self.bodies.bodies() {
+            Some(bodies) => push_show(bodies, out),
+            None => Ok(()),
+        }
     }
 }
 

@@ -14,12 +14,14 @@
 //! | `ports.rt` | the mask of up ports |
 //! | `node.rt` | `Node`, a guest with its mask of up ports and its count of sends, and `Sent` |
 //! | `flood.rt` | `Flood`, the flooding guest |
+//! | `body_set.rt` | `BodySet`, the bodies that a flooding guest has seen, which its copies share |
 //! | `hex.rt` | hexadecimal digits |
 //!
 //! The one contract upwards: `Node::take` is the node step of `specs/Node.antt`, for every guest that
 //! meets the trait `Guest`, whose meaning (`specs/Meaning.antt`) is plain functions of plain data.
 #![tactic(auto)]
 
+mod body_set;
 mod bytes;
 mod flood;
 mod guest;

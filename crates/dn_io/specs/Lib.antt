@@ -1,3 +1,5 @@
 pub mod Streams
+pub mod LineReading
+pub mod Beats
 pub mod Memory
 pub mod Standard

@@ -18,8 +18,7 @@ use Rattle.dn_guest.specs.declared.input.Input.TheVariants.{Tick}
 use Rattle.dn_model.specs.Order.{event_cmp}
 use Rattle.dn_model.specs.Network.{is_at as is_at_router}
 use Rattle.dn_model.specs.SoFar.{by_router}
-use Rattle.dn_model.proofs.Rows.{all_permutation}
-use Rattle.dn_lists.proofs.Lists.{by_test, all_weaker, all_append, filter_append}
+use Rattle.dn_lists.proofs.Lists.{all_append, all_permutation, all_weaker, by_test, filter_append}
 use Rattle.dn_lists.proofs.Sorting.{count}
 use Rattle.dn_lockstep.specs.declared.later.Moment.{Moment}
 use Rattle.dn_lockstep.specs.declared.queued.Queued.{Queued}

@@ -13,11 +13,9 @@ use Rattle.std.specs.declared.cmp.Ordering.{Ordering}
 use Rattle.std.specs.declared.cmp.Ordering.TheVariants.{Less, Equal, Greater}
 use Rattle.dn_guest.specs.InputOrder.{input_cmp, input_numbers}
 use Rattle.std.specs.Cmp.Lexicographic.{slice_cmp}
-use Rattle.dn_model.proofs.EventOrder.{event_cmp_is}
 use Rattle.dn_model.specs.declared.event.Event.{Event}
 use Rattle.dn_model.specs.Order.{key_cmp, event_cmp, event_total}
-use Rattle.dn_model.proofs.Rows.{all_permutation}
-use Rattle.dn_lists.proofs.Lists.{all_weaker, all_append}
+use Rattle.dn_lists.proofs.Lists.{all_weaker, all_append, all_permutation}
 use Rattle.dn_lists.specs.InOrder.{in_order}
 use Rattle.dn_lists.proofs.Sorting.{Rises, turn, permutation_in_order, rises_in_order}
 use Rattle.dn_lockstep.specs.declared.queued.Queued.{Queued}
@@ -36,14 +34,18 @@ some_least events some = first (in_order event_cmp events) (permutation_in_order
     first [] moves rises = absurd (some (no_items events (sym (length_permutation events [] moves))))
     first (x ∷ xs) moves rises = (x, record { rest = xs; among = moves; first = rises.0 })
 
+-- the order of events by its parts
+abbrev pub ByParts : Type 0
+ByParts = (x y : Event) → event_cmp x y ≡ ordering_then (ordering_then (key_cmp x.key y.key) (nat_cmp x.router y.router)) (input_cmp x.input y.input)
+
 -- where the keys differ, they decide
-pub keys_decide : (x y : Event) → (key_cmp x.key y.key ≡ Equal → ⊥) → key_cmp x.key y.key ≡ event_cmp x y
-keys_decide x y differ = decide (key_cmp x.key y.key) refl
+pub keys_decide : ByParts → (x y : Event) → (key_cmp x.key y.key ≡ Equal → ⊥) → key_cmp x.key y.key ≡ event_cmp x y
+keys_decide parts x y differ = decide (key_cmp x.key y.key) refl
   where
     decide : (r : Ordering) → key_cmp x.key y.key ≡ r → key_cmp x.key y.key ≡ event_cmp x y
-    decide Less e = e ∙ ap (λ k. ordering_then (ordering_then k (nat_cmp x.router y.router)) (input_cmp x.input y.input)) (sym e) ∙ sym (event_cmp_is x y)
+    decide Less e = e ∙ ap (λ k. ordering_then (ordering_then k (nat_cmp x.router y.router)) (input_cmp x.input y.input)) (sym e) ∙ sym (parts x y)
     decide Equal e = absurd (differ e)
-    decide Greater e = e ∙ ap (λ k. ordering_then (ordering_then k (nat_cmp x.router y.router)) (input_cmp x.input y.input)) (sym e) ∙ sym (event_cmp_is x y)
+    decide Greater e = e ∙ ap (λ k. ordering_then (ordering_then k (nat_cmp x.router y.router)) (input_cmp x.input y.input)) (sym e) ∙ sym (parts x y)
 
 then_decides : (r rest : Ordering) → (r ≡ Equal → ⊥) → r ≡ ordering_then r rest
 then_decides Less rest differ = refl

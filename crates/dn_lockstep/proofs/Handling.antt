@@ -12,13 +12,10 @@ use Rattle.dn_guest.specs.Node.{node_after, node_sent}
 use Rattle.dn_model.specs.declared.event.Event.{Event}
 use Rattle.dn_model.specs.declared.timing.Timing.{Timing}
 use Rattle.dn_model.specs.declared.link.End.{End}
-use Rattle.dn_model.specs.Cases.{Heading, IsHeading, timing_of}
+use Rattle.dn_model.specs.Cases.{Heading, timing_of}
 use Rattle.dn_model.specs.Links.{ends}
 use Rattle.dn_model.specs.Network.{emitted_by, emitted}
-use Rattle.dn_model.proofs.Ports.{wired_from}
-use Rattle.dn_model.proofs.Rows.{all_permutation}
-use Rattle.dn_model.proofs.Steps.{emitted_inside}
-use Rattle.dn_lists.proofs.Lists.{all_append}
+use Rattle.dn_lists.proofs.Lists.{all_append, all_permutation}
 use Rattle.dn_lockstep.specs.Least.{IsUpTo}
 use Rattle.dn_lockstep.specs.Steps.{AreInside, IsHandled}
 
@@ -48,10 +45,10 @@ module _ {S : Type 0} (guests : Meaning S) (header : Heading) (nodes : List (Nod
       }
 
   -- what waits after a step is at routers of the network too
-  pub handled_inside : IsHeading header → (waiting done : List Event) (e : Event) (nodes_after : List (Node S)) → AreInside (length header.routers) waiting → IsHandled guests header nodes waiting e nodes_after done → AreInside (length header.routers) done
-  handled_inside rules waiting done e nodes_after inside h =
+  pub handled_inside : ((cause : Event) (sents : List Sent) → AreInside (length header.routers) (emitted header cause sents)) → (waiting done : List Event) (e : Event) (nodes_after : List (Node S)) → AreInside (length header.routers) waiting → IsHandled guests header nodes waiting e nodes_after done → AreInside (length header.routers) done
+  handled_inside emits waiting done e nodes_after inside h =
       let n = length header.routers in
       let P : Event → Type 0 = λ w. w.router < n in
       let out = emitted header e (node_sent guests h.node e.input) in
       all_permutation P (h.rest ++ out) done h.added
-      (all_append P h.rest out (all_permutation P waiting (e ∷ h.rest) h.among inside).1 (emitted_inside n header (wired_from header rules) e (node_sent guests h.node e.input)))
+      (all_append P h.rest out (all_permutation P waiting (e ∷ h.rest) h.among inside).1 (emits e (node_sent guests h.node e.input)))

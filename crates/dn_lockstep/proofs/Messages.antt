@@ -1,23 +1,19 @@
 -- The messages to a router that wait.
 use Rattle.std.proofs.Common.{length, take, get_or, ◌≡◌, ℕ, zero, suc, ◌+◌, ◌<◌, Bool, true, false, ◌&&◌, List, [], ◌∷◌, ◌++◌, refl, sym, ap, ◌∙◌, arith, append-nil}
 use Rattle.std.specs.Prelude.{◌==◌, cond}
+use Rattle.std.specs.FinMap.{IsAntisymmetric}
 use Rattle.std.specs.List.{filter, AllByRecursion}
 use Rattle.std.specs.List.Sorted.{IsPermutation}
 use Rattle.std.proofs.lemmas.Bool.{eq-eqb, ne_eqb, both_ways}
 use Rattle.std.proofs.lemmas.List.{take_more, map-append}
-use Rattle.dn_guest.specs.declared.node.Node.{Node}
-use Rattle.dn_guest.specs.Node.{node_after, node_sent}
 use Rattle.dn_model.specs.declared.event.Event.{Event}
 use Rattle.dn_model.specs.declared.feed.External.{External}
 use Rattle.dn_model.specs.Order.{event_cmp, event_total}
-use Rattle.dn_model.specs.Network.{Network, Family, emitted, injected, is_at, routers, opening_node, sent_from, sent, sent_to, tick}
+use Rattle.dn_model.specs.Network.{Network, Family, injected, is_at, routers, sent_to, tick}
 use Rattle.dn_model.specs.Settled.{due}
 use Rattle.dn_model.specs.SoFar.{by_router}
 use Rattle.dn_lists.proofs.Lists.{by_test, all_weaker, all_append, all_filter, filter_append, filter_none}
 use Rattle.dn_lists.proofs.Sorting.{count, count_append, count_none, count_filter, count_permutation, permutation_from_counts}
-use Rattle.dn_model.proofs.EventOrder.{event_same}
-use Rattle.dn_model.proofs.Committed.{emitted_from, injected_injected}
-use Rattle.dn_model.proofs.Causes.{all_joined_below}
 use Rattle.dn_lockstep.specs.Agendas.{group_ticks, later_ticks}
 use Rattle.dn_lockstep.specs.declared.queued.Queued.{Queued}
 use Rattle.dn_lockstep.specs.Queues.{queued_events}
@@ -50,44 +46,31 @@ messages_in_queue r queue group left n =
 
 -- ---- what is sent is a message, and what is injected is none
 
+-- what is sent to a router are messages, and what is injected are none
+pub record Kinds {S : Type 0} (net : Network S) (feed : List External) : Type 0 where
+  pub all_sent : (f : Family) (r : ℕ) → AllByRecursion (λ e. e.key.class ≡ 2) (sent_to net f r)
+  pub all_injected : (r : ℕ) → AllByRecursion (λ e. e.key.class < 2) (injected net.header.groups feed r)
+
 module _ {S : Type 0} (net : Network S) where
-  sent_from_messages : (node : Node S) (es : List Event) → AllByRecursion (λ e. is_message e ≡ true) (sent_from net node es)
-  unfolding sent_from
-  sent_from_messages node [] = tt
-  sent_from_messages node (e ∷ es) =
-      let out = emitted net.header e (node_sent net.guests node e.input) in
-      all_append (λ w. is_message w ≡ true) out (sent_from net (node_after net.guests node e.input) es)
-      (all_weaker (λ w. (w.key.class ≡ 2) × (w.key.origin ≡ e.router)) (λ w. is_message w ≡ true) out (λ w h. eq-eqb w.key.class 2 h.0) (emitted_from net.header e (node_sent net.guests node e.input)))
-      (sent_from_messages (node_after net.guests node e.input) es)
-
-  sent_to_messages : (f : Family) (r : ℕ) → AllByRecursion (λ e. is_message e ≡ true) (sent_to net f r)
-  unfolding sent_to sent
-  sent_to_messages f r =
-      all_joined_below (λ e. is_message e ≡ true) (routers net) (λ s. filter (is_at r) (sent net s (f s)))
-      (λ s l. all_filter (λ e. is_message e ≡ true) (is_at r) (sent net s (f s)) (sent_from_messages (opening_node net s) (f s)))
-
-  injected_no : (n : ℕ) (feed : List External) (r : ℕ) → AllByRecursion (λ e. is_message e ≡ false) (injected n feed r)
-  injected_no n feed r =
-      all_weaker (λ e. e.key.class < 2) (λ e. is_message e ≡ false) (injected n feed r) (λ e h. ne_eqb e.key.class 2 (λ x. omega (arith, h, x))) (injected_injected n feed r)
-
   count_all : (p q : Event → Bool) (xs : List Event) → AllByRecursion (λ e. q e ≡ true) xs → count (λ e. q e && p e) xs ≡ count p xs
   count_all p q [] a = refl
   count_all p q (x ∷ xs) a = let h = a.0 in let ih = count_all p q xs a.1 in simp h (ap (λ n. cond (p x) 1 0 + n) ih)
 
   -- what the rows so far sent to a router: the messages among its rows, and those that wait
-  pub sent_so_far : (feed : List External) (e : Running S) → StandsIn net feed e → (r : ℕ) → r < routers net → IsPermutation (sent_to net (by_router (first_rows net feed e.place)) r) (messages (by_router (first_rows net feed e.place) r) ++ messages (by_router e.waiting r))
+  pub sent_so_far : IsAntisymmetric event_cmp → (feed : List External) → Kinds net feed → (e : Running S) → StandsIn net feed e → (r : ℕ) → r < routers net → IsPermutation (sent_to net (by_router (first_rows net feed e.place)) r) (messages (by_router (first_rows net feed e.place) r) ++ messages (by_router e.waiting r))
   unfolding due
-  sent_so_far feed e so r l =
+  sent_so_far apart feed kinds e so r l =
       let done = first_rows net feed e.place in
       let f = by_router done in
-      permutation_from_counts event_cmp event_total event_same (sent_to net f r) (messages (by_router done r) ++ messages (by_router e.waiting r))
+      permutation_from_counts event_cmp event_total apart (sent_to net f r) (messages (by_router done r) ++ messages (by_router e.waiting r))
       (λ p.
       let q : Event → Bool = λ w. is_message w && p w in
       let all = count_permutation q (due net feed f r) (by_router (done ++ e.waiting) r) (so.so_far.complete r l) in
       let parts = count_append q (injected net.header.groups feed r) (sent_to net f r) in
       let none : count q (injected net.header.groups feed r) ≡ 0 =
-      count_none q (injected net.header.groups feed r) (all_weaker (λ w. is_message w ≡ false) (λ w. q w ≡ false) (injected net.header.groups feed r) (λ w h. simp h refl) (injected_no net.header.groups feed r)) in
-      let own = count_all p is_message (sent_to net f r) (sent_to_messages f r) in
+      count_none q (injected net.header.groups feed r) (all_weaker (λ w. is_message w ≡ false) (λ w. q w ≡ false) (injected net.header.groups feed r) (λ w h. simp h refl)
+      (all_weaker (λ w. w.key.class < 2) (λ w. is_message w ≡ false) (injected net.header.groups feed r) (λ w h. ne_eqb w.key.class 2 (λ x. omega (arith, h, x))) (kinds.all_injected r))) in
+      let own = count_all p is_message (sent_to net f r) (all_weaker (λ w. w.key.class ≡ 2) (λ w. is_message w ≡ true) (sent_to net f r) (λ w h. eq-eqb w.key.class 2 h) (kinds.all_sent f r)) in
       let two : count q (by_router (done ++ e.waiting) r) ≡ count q (by_router done r ++ by_router e.waiting r) = ap (count q) (filter_append (is_at r) done e.waiting) in
       let split = count_append q (by_router done r) (by_router e.waiting r) in
       let first = count_filter p is_message (by_router done r) in

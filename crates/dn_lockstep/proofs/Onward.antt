@@ -15,19 +15,44 @@ use Rattle.dn_model.specs.declared.event.Event.{Event}
 use Rattle.dn_model.specs.declared.feed.External.{External}
 use Rattle.dn_model.specs.Order.{event_cmp, event_total}
 use Rattle.dn_model.specs.Network.{Network, Family, emitted, is_at, routers, opening_node, state_from, state, sent, sent_to, injected}
-use Rattle.dn_model.specs.Settled.{row_limit, IsPrefixOf, IsSettled, IsSettledBelow, AreSame, below, due, lockstep, rows}
-use Rattle.dn_model.specs.SoFar.{IsRunSoFar, by_router, next_emitted}
-use Rattle.dn_lists.proofs.Lists.{by_test, pairs_filter}
+use Rattle.dn_model.specs.Settled.{row_limit, IsFeedOf, IsPrefixOf, IsSettled, IsSettledBelow, IsTimed, AreSame, below, due, lockstep, rows}
+use Rattle.dn_model.specs.SoFar.{IsRunSoFar, IsWired, by_router, next_emitted}
+use Rattle.dn_lists.proofs.Lists.{by_test, all_back, all_permutation, filter_all, filter_append, filter_none, pairs_filter}
 use Rattle.dn_lists.proofs.Sorting.{rises_from_sorted, sorted_from_rises}
-use Rattle.dn_model.proofs.Waves.{no_other_settled, no_other_settled_below, lockstep_settled_below}
-use Rattle.dn_model.proofs.Rows.{joined_same, next_row, last_row, all_permutation, all_back}
-use Rattle.dn_model.proofs.Steps.{at_own, at_other, so_far_step, so_far_moved}
 use Rattle.dn_lockstep.specs.Least.{IsUpTo, IsLeast}
 use Rattle.dn_lockstep.specs.Running.{Running, StandsIn, IsAtEnd, first_rows, row_before}
 use Rattle.dn_lockstep.specs.Steps.{IsHandled}
 use Rattle.dn_lockstep.specs.Answers.{answer_after}
 use Rattle.dn_lockstep.specs.declared.engine.Next.TheVariants.{Row, End, Cut}
 use Rattle.dn_lockstep.proofs.Places.{GoesOn, goes_on, get_set_same, get_set_other}
+
+-- whoever handles the least of what waits, again and again, handles the lockstep rows, one by one
+pub record OneByOne {S : Type 0} (net : Network S) (feed : List External) : Type 0 where
+  pub in_any_order : (done waiting other : List Event) → IsRunSoFar net feed done waiting → IsPermutation waiting other → IsRunSoFar net feed done other
+  pub onward : IsTimed net.header → IsWired net → IsFeedOf net.header feed → (done waiting rest : List Event) (e : Event) → IsRunSoFar net feed done waiting → IsPermutation waiting (e ∷ rest) → IsUpTo e rest → IsRunSoFar net feed (done ++ e ∷ []) (rest ++ next_emitted net done e)
+  pub next : IsTimed net.header → IsFeedOf net.header feed → (done waiting rest : List Event) (e : Event) → IsRunSoFar net feed done waiting → IsPermutation waiting (e ∷ rest) → IsUpTo e rest → IsPrefixOf (done ++ e ∷ []) (rows net feed)
+  pub last : IsTimed net.header → IsFeedOf net.header feed → (done : List Event) → IsRunSoFar net feed done [] → rows net feed ≡ done
+
+-- the lockstep lists are a settled family, and no other is, the same below every key; settled are the histories
+pub record OneFamily {S : Type 0} (net : Network S) (feed : List External) : Type 0 where
+  pub no_other : IsTimed net.header → IsFeedOf net.header feed → (f : Family) → IsSettled net feed f → AreSame net feed f (lockstep net feed)
+  pub lockstep_below : IsTimed net.header → IsFeedOf net.header feed → (bound : Key) → IsSettledBelow net feed bound (lockstep net feed)
+  pub no_other_below : IsTimed net.header → IsFeedOf net.header feed → (bound : Key) (f : Family) → IsSettledBelow net feed bound f → (r : ℕ) → r < routers net → below bound (f r) ≡ below bound (lockstep net feed r)
+  pub same : (bound : Key) (f g : Family) → AreSame net feed f g → IsSettledBelow net feed bound g → IsSettledBelow net feed bound f
+
+-- ---- the events of a router, and one more
+
+at_own : (es : List Event) (e : Event) → by_router (es ++ e ∷ []) e.router ≡ by_router es e.router ++ e ∷ []
+unfolding is_at
+at_own es e =
+    filter_append (is_at e.router) es (e ∷ []) ∙ ap (λ l. by_router es e.router ++ l) (filter_all (is_at e.router) (e ∷ []) (eq-eqb e.router e.router refl, tt))
+
+at_other : (es : List Event) (e : Event) (r : ℕ) → (e.router ≡ r → ⊥) → by_router (es ++ e ∷ []) r ≡ by_router es r
+unfolding is_at
+at_other es e r h =
+    filter_append (is_at r) es (e ∷ [])
+    ∙ ap (λ l. by_router es r ++ l) (filter_none (is_at r) (e ∷ []) (ne_eqb e.router r h, tt))
+    ∙ append-nil (by_router es r)
 
 module _ {S : Type 0} (net : Network S) where
   -- ---- the replay of one event more
@@ -40,46 +65,27 @@ module _ {S : Type 0} (net : Network S) where
   state_own : (done : List Event) (e : Event) → state net e.router (by_router (done ++ e ∷ []) e.router) ≡ node_after net.guests (state net e.router (by_router done e.router)) e.input
   unfolding state state_from
   state_own done e =
-      ap (state_from net (opening_node net e.router)) (at_own net done e)
+      ap (state_from net (opening_node net e.router)) (at_own done e)
       ∙ state_append (opening_node net e.router) (by_router done e.router) (e ∷ [])
 
   state_other : (done : List Event) (e : Event) (r : ℕ) → (e.router ≡ r → ⊥) → state net r (by_router (done ++ e ∷ []) r) ≡ state net r (by_router done r)
-  state_other done e r ne = ap (state net r) (at_other net done e r ne)
-
-  -- ---- families that are the same
+  state_other done e r ne = ap (state net r) (at_other done e r ne)
 
   module _ (feed : List External) where
-    due_same : (f g : Family) → AreSame net feed f g → (r : ℕ) → due net feed f r ≡ due net feed g r
-    unfolding due sent_to
-    due_same f g same r =
-        ap (λ l. injected net.header.groups feed r ++ l)
-        (joined_same (routers net) (λ s. filter (is_at r) (sent net s (f s))) (λ s. filter (is_at r) (sent net s (g s))) (λ s l. ap (λ es. filter (is_at r) (sent net s es)) (same s l)))
-
-    settled_below_same : (bound : Key) (f g : Family) → AreSame net feed f g → IsSettledBelow net feed bound g → IsSettledBelow net feed bound f
-    settled_below_same bound f g same is = record {
-      sorted = λ r l. subst (λ (es : List Event). IsSorted event_cmp (below bound es)) (sym (same r l)) (is.sorted r l);
-      prefix = λ r l. subst (λ (es : List Event). IsPrefixOf (below bound es) es) (sym (same r l)) (is.prefix r l);
-      complete = λ r l.
-          let e : due net feed (λ s. below bound (g s)) r ≡ due net feed (λ s. below bound (f s)) r =
-          due_same (λ s. below bound (g s)) (λ s. below bound (f s)) (λ s k. ap (below bound) (sym (same s k))) r in
-          subst (λ (es : List Event). IsPermutation (below bound (due net feed (λ s. below bound (f s)) r)) (below bound es)) (sym (same r l))
-          (subst (λ (es : List Event). IsPermutation (below bound es) (below bound (g r))) e (is.complete r l));
-    }
-
     -- ---- the next row
 
-    module _ (e : Running S) (so : StandsIn net feed e) where
+    module _ (rows_one_by_one : OneByOne net feed) (e : Running S) (so : StandsIn net feed e) where
       done : List Event
       done = first_rows net feed e.place
 
       pub next_is : (w : Event) (rest : List Event) → IsPermutation e.waiting (w ∷ rest) → IsUpTo w rest → GoesOn (rows net feed) e.place w
       next_is w rest moves first =
-          let front : IsPrefixOf (first_rows net feed e.place ++ w ∷ []) (rows net feed) = next_row net feed so.timed so.fed (first_rows net feed e.place) e.waiting rest w so.so_far moves first in
+          let front : IsPrefixOf (first_rows net feed e.place ++ w ∷ []) (rows net feed) = rows_one_by_one.next so.timed so.fed (first_rows net feed e.place) e.waiting rest w so.so_far moves first in
           goes_on (rows net feed) e.place w front.0 so.within front.1
 
       -- where nothing waits, all rows are done
       pub all_done : e.waiting ≡ [] → rows net feed ≡ first_rows net feed e.place
-      all_done none = last_row net feed so.timed so.fed (first_rows net feed e.place) (subst (IsRunSoFar net feed (first_rows net feed e.place)) none so.so_far)
+      all_done none = rows_one_by_one.last so.timed so.fed (first_rows net feed e.place) (subst (IsRunSoFar net feed (first_rows net feed e.place)) none so.so_far)
 
       pub place_at_end : e.waiting ≡ [] → e.place ≡ length (rows net feed)
       place_at_end none =
@@ -99,17 +105,17 @@ module _ {S : Type 0} (net : Network S) where
             complete = λ r l. subst (λ (es : List Event). IsPermutation (due net feed (by_router (rows net feed)) r) (by_router es r)) (append-nil (rows net feed)) (so_far.complete r l);
           }
 
-      pub at_end : e.waiting ≡ [] → IsAtEnd net feed e
-      at_end none =
+      pub at_end : OneFamily net feed → e.waiting ≡ [] → IsAtEnd net feed e
+      at_end one none =
           let settled = settled_at_end none in
-          let same = no_other_settled net feed so.timed so.fed (by_router (rows net feed)) settled in
+          let same = one.no_other so.timed so.fed (by_router (rows net feed)) settled in
           record {
             place = place_at_end none;
             of_router = same;
             settled = settled;
-            settled_below = λ bound. settled_below_same bound (by_router (rows net feed)) (lockstep net feed) same (lockstep_settled_below net feed so.timed so.fed bound);
-            no_other = λ f is r l. no_other_settled net feed so.timed so.fed f is r l ∙ sym (same r l);
-            no_other_below = λ bound f is r l. no_other_settled_below net feed so.timed so.fed bound f is r l ∙ ap (below bound) (sym (same r l));
+            settled_below = λ bound. one.same bound (by_router (rows net feed)) (lockstep net feed) same (one.lockstep_below so.timed so.fed bound);
+            no_other = λ f is r l. one.no_other so.timed so.fed f is r l ∙ sym (same r l);
+            no_other_below = λ bound f is r l. one.no_other_below so.timed so.fed bound f is r l ∙ ap (below bound) (sym (same r l));
             nodes = λ r l. so.nodes r l ∙ ap (λ (es : List Event). Some (state net r es)) (ap (λ (es : List Event). by_router es r) (sym (all_done none)) ∙ same r l);
           }
 
@@ -125,9 +131,9 @@ module _ {S : Type 0} (net : Network S) where
           let node_is : h.node ≡ state net w.router (by_router now w.router) = same_Some h.node (state net w.router (by_router now w.router)) (sym h.had ∙ so.nodes w.router at) in
           let out : emitted e.header w (node_sent guests h.node w.input) ≡ next_emitted net now w =
           λ i. emitted (so.header i) w (node_sent (sym are i) (node_is i) w.input) in
-          let stepped : IsRunSoFar net feed (now ++ w ∷ []) (h.rest ++ next_emitted net now w) = so_far_step net feed so.timed so.wired so.fed now e.waiting h.rest w so.so_far h.among h.first in
+          let stepped : IsRunSoFar net feed (now ++ w ∷ []) (h.rest ++ next_emitted net now w) = rows_one_by_one.onward so.timed so.wired so.fed now e.waiting h.rest w so.so_far h.among h.first in
           let moved : IsRunSoFar net feed (now ++ w ∷ []) waiting =
-          so_far_moved net feed (now ++ w ∷ []) (h.rest ++ next_emitted net now w) waiting stepped (subst (λ (es : List Event). IsPermutation (h.rest ++ es) waiting) out h.added) in
+          rows_one_by_one.in_any_order (now ++ w ∷ []) (h.rest ++ next_emitted net now w) waiting stepped (subst (λ (es : List Event). IsPermutation (h.rest ++ es) waiting) out h.added) in
           record {
             timed = so.timed;
             wired = so.wired;

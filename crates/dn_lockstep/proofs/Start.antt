@@ -1,10 +1,10 @@
 -- How a run begins: what waits is all that is injected, and the nodes are the opening ones.
 use Rattle.std.proofs.Common.{◌≡◌, ℕ, zero, suc, ◌+◌, ◌-◌, ◌^◌, ◌<◌, Bool, true, false, Some, None, List, [], ◌∷◌, ◌++◌, length, ltb, refl, sym, ap, ◌∙◌, subst, arith}
 use Rattle.std.specs.Prelude.{slice_get}
-use Rattle.std.specs.List.{filter, AllByRecursion}
+use Rattle.std.specs.FinMap.{IsAntisymmetric}
+use Rattle.std.specs.List.{AllByRecursion}
 use Rattle.std.specs.List.Sorted.{IsPermutation}
 use Rattle.std.proofs.lemmas.List.Sorted.{IsPermutation-trans}
-use Rattle.std.proofs.lemmas.Bool.{lt-ltb}
 use Rattle.dn_guest.specs.declared.node.Node.{Node}
 use Rattle.dn_model.specs.declared.event.Event.{Event}
 use Rattle.dn_model.specs.declared.feed.External.{External}
@@ -14,13 +14,9 @@ use Rattle.dn_model.specs.Links.{ports_of}
 use Rattle.dn_model.specs.Order.{event_cmp, event_total}
 use Rattle.dn_model.specs.Network.{Network, Family, tick, ticks, externals, injected, joined, routers, opening_node, state_from, state}
 use Rattle.dn_model.specs.Settled.{IsTimed, IsFeedOf}
-use Rattle.dn_model.specs.SoFar.{all_injected, by_router}
-use Rattle.dn_lists.proofs.Lists.{all_weaker, all_append, filter_all}
-use Rattle.dn_lists.proofs.Sorting.{count, count_append, permutation_from_counts}
-use Rattle.dn_model.proofs.EventOrder.{event_same}
-use Rattle.dn_model.proofs.Ports.{timed_from, wired_from, fed_from}
-use Rattle.dn_model.proofs.Rows.{count_by_router, all_permutation}
-use Rattle.dn_model.proofs.Steps.{so_far_start, so_far_moved}
+use Rattle.dn_model.specs.SoFar.{IsRunSoFar, IsWired, all_injected, by_router}
+use Rattle.dn_lists.proofs.Lists.{all_weaker, all_append, all_permutation}
+use Rattle.dn_lists.proofs.Sorting.{count, count_append, count_permutation, permutation_from_counts}
 use Rattle.dn_lockstep.specs.Agendas.{group_ticks, later_ticks}
 use Rattle.dn_lockstep.specs.Openings.{opening_from}
 use Rattle.dn_lockstep.specs.Running.{StandsIn}
@@ -123,42 +119,47 @@ opening_at links k (x ∷ xs) (suc r) s h = let e : k + suc r ≡ suc k + r = om
 
 -- ---- the start
 
-module _ {S : Type 0} (net : Network S) (feed : List External) where
-  all_waits : AllByRecursion (λ x. x.router < routers net) feed → IsPermutation (all_injected net feed) (externals 0 feed ++ later_ticks 0 net.header.groups (routers net))
-  unfolding injected
-  all_waits inside =
-      permutation_from_counts event_cmp event_total event_same (all_injected net feed) (externals 0 feed ++ later_ticks 0 net.header.groups (routers net))
-      (λ p.
-      let n = routers net in
-      let es = externals 0 feed in
-      let both = joined_both p n (ticks net.header.groups) (by_router es) in
-      let by_groups = ticks_by_group p net.header.groups n in
-      let outside = count_by_router p n es in
-      let whole : filter (λ e. ltb e.router n) es ≡ es =
-      filter_all (λ e. ltb e.router n) es (all_weaker (λ e. e.router < n) (λ e. ltb e.router n ≡ true) es (λ e h. lt-ltb e.router n h) (externals_inside n 0 feed inside)) in
-      let own : count p (filter (λ e. ltb e.router n) es) ≡ count p es = ap (count p) whole in
-      let all = count_append p es (later_ticks 0 net.header.groups n) in
-      both ∙ omega (arith, by_groups, outside, own, all))
+-- a list of events of the first n routers is, up to order, its parts by router
+abbrev pub Parted : Type 0
+Parted = (n : ℕ) (es : List Event) → AreInside n es → IsPermutation (joined n (by_router es)) es
 
-pub stands_at_start : {S : Type 0} (net : Network S) (case : Recording) → IsRecording case → net.header ≡ case.header → (guests : List S) → ((r : ℕ) → r < routers net → slice_get guests r ≡ Some (net.opening r)) → (header : Heading) → header ≡ case.header → (nodes : List (Node S)) → nodes ≡ opening_from header.links 0 guests → (waiting : List Event) → IsPermutation (externals 0 case.feed ++ later_ticks 0 header.groups (length header.routers)) waiting → StandsIn net case.feed (record { header = header; nodes = nodes; waiting = waiting; place = 0; last = None; spent = false })
+all_waits : {S : Type 0} → IsAntisymmetric event_cmp → Parted → (net : Network S) (feed : List External) → AllByRecursion (λ x. x.router < routers net) feed → IsPermutation (all_injected net feed) (externals 0 feed ++ later_ticks 0 net.header.groups (routers net))
+unfolding injected
+all_waits apart parted net feed inside =
+    permutation_from_counts event_cmp event_total apart (all_injected net feed) (externals 0 feed ++ later_ticks 0 net.header.groups (routers net))
+    (λ p.
+    let n = routers net in
+    let es = externals 0 feed in
+    let both = joined_both p n (ticks net.header.groups) (by_router es) in
+    let by_groups = ticks_by_group p net.header.groups n in
+    let outside = count_permutation p (joined n (by_router es)) es (parted n es (externals_inside n 0 feed inside)) in
+    let all = count_append p es (later_ticks 0 net.header.groups n) in
+    both ∙ omega (arith, by_groups, outside, all))
+
+-- what the rules of a case give of a network, and how a run of it begins
+pub record Begins {S : Type 0} (net : Network S) (feed : List External) : Type 0 where
+  pub timed : IsTimed net.header
+  pub wired : IsWired net
+  pub fed : IsFeedOf net.header feed
+  pub first : (waiting : List Event) → IsPermutation (all_injected net feed) waiting → IsRunSoFar net feed [] waiting
+
+pub stands_at_start : {S : Type 0} → IsAntisymmetric event_cmp → Parted → (net : Network S) (case : Recording) → Begins net case.feed → IsRecording case → net.header ≡ case.header → (guests : List S) → ((r : ℕ) → r < routers net → slice_get guests r ≡ Some (net.opening r)) → (header : Heading) → header ≡ case.header → (nodes : List (Node S)) → nodes ≡ opening_from header.links 0 guests → (waiting : List Event) → IsPermutation (externals 0 case.feed ++ later_ticks 0 header.groups (length header.routers)) waiting → StandsIn net case.feed (record { header = header; nodes = nodes; waiting = waiting; place = 0; last = None; spent = false })
 unfolding routers state state_from opening_node
-stands_at_start {S = S} net case rules same guests openings header header_is nodes nodes_are waiting moves =
-    let Wired : Heading → Type 0 = λ h. AllByRecursion (λ l. (l.a < length h.routers) × (l.b < length h.routers)) h.links in
-    let Fed : Heading → Type 0 = λ h. IsFeedOf h case.feed in
+stands_at_start {S = S} apart parted net case begins rules same guests openings header header_is nodes nodes_are waiting moves =
     let here : header ≡ net.header = header_is ∙ sym same in
     let Inside : Heading → Type 0 = λ h. AllByRecursion (λ x. x.router < length h.routers) case.feed in
     let inside : AllByRecursion (λ x. x.router < routers net) case.feed = subst Inside (sym same) (feed_inside case.header 0 case.feed rules.feed) in
     let Moves : Heading → Type 0 = λ h. IsPermutation (externals 0 case.feed ++ later_ticks 0 h.groups (length h.routers)) waiting in
     let whole : IsPermutation (externals 0 case.feed ++ later_ticks 0 net.header.groups (routers net)) waiting = subst Moves here moves in
     record {
-      timed = subst IsTimed (sym same) (timed_from case.header rules.header);
-      wired = subst Wired (sym same) (wired_from case.header rules.header);
-      fed = subst Fed (sym same) (fed_from case.header 0 case.feed rules.feed);
+      timed = begins.timed;
+      wired = begins.wired;
+      fed = begins.fed;
       header = here;
       within = omega arith;
       so_far =
-          so_far_moved net case.feed [] (all_injected net case.feed) waiting (so_far_start net case.feed)
-          (IsPermutation-trans (all_injected net case.feed) (externals 0 case.feed ++ later_ticks 0 net.header.groups (routers net)) waiting (all_waits net case.feed inside) whole);
+          begins.first waiting
+          (IsPermutation-trans (all_injected net case.feed) (externals 0 case.feed ++ later_ticks 0 net.header.groups (routers net)) waiting (all_waits apart parted net case.feed inside) whole);
       last = refl;
       nodes = λ r l.
           let e : 0 + r ≡ r = omega arith in

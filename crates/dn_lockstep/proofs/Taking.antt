@@ -13,8 +13,7 @@ use Rattle.std.specs.Ordering.{is_lt, is_gt}
 use Rattle.std.specs.Cmp.{upto}
 use Rattle.dn_model.specs.declared.event.Event.{Event}
 use Rattle.dn_model.specs.Order.{event_cmp, event_total}
-use Rattle.dn_model.proofs.Rows.{all_permutation}
-use Rattle.dn_lists.proofs.Lists.{Pairs, all_weaker, all_append}
+use Rattle.dn_lists.proofs.Lists.{Pairs, all_append, all_permutation, all_weaker}
 use Rattle.dn_lists.proofs.Sorting.{turn, rises_from_sorted, sorted_from_rises}
 use Rattle.dn_lockstep.specs.declared.queued.Queued.{Queued}
 use Rattle.dn_lockstep.specs.Least.{IsUpTo, IsLeast}

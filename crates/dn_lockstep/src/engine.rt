@@ -64,6 +64,10 @@ impl<G: Guest> Engine<G> {
         ensures place { IfOk result (λ made. made.place ≡ 0) }
         ensures header { IfOk result (λ made. made.header ≡ case.now.header) }
     {
+        dn_model::laws::order_of_events();
+        dn_model::laws::cases_are_timed::<G>();
+        dn_model::laws::rows_one_by_one::<G>();
+        dn_model::laws::lists_of_routers::<G>();
         let header = case.header.copy(alloc)?;
         let wiring = Wiring::new(alloc, &header)?;
         let nodes = opening_nodes(alloc, &header, guests)?;
@@ -94,6 +98,10 @@ impl<G: Guest> Engine<G> {
         ensures header { self.new.header ≡ self.old.header }
         ensures kept { OnErr result ((self.new.place ≡ self.old.place) × (self.new.last ≡ self.old.last)) }
     {
+        dn_model::laws::one_settled_family::<G>();
+        dn_model::laws::same_families::<G>();
+        dn_model::laws::rows_one_by_one::<G>();
+        dn_model::laws::lists_of_routers::<G>();
         if self.spent {
             return Err(AllocError);
         }
@@ -135,6 +143,7 @@ impl<G: Guest> Engine<G> {
         ensures { (net : Network G) (feed : List External) → StandsIn net feed self.now →
             option_copied result ≡ slice_get (rows net feed) self.now.place }
     {
+        dn_model::laws::rows_one_by_one::<G>();
         self.agenda.peek()
     }
 
@@ -166,6 +175,8 @@ impl<G: Guest> Engine<G> {
             IfOk result (λ found. IsPermutation (sent_to net (by_router (first_rows net feed self.now.place)) router) (messages (by_router (first_rows net feed self.now.place) router) ++
             found.items)) }
     {
+        dn_model::laws::order_of_events();
+        dn_model::laws::lists_of_routers::<G>();
         let mut found = self.agenda.messages_to(alloc, router)?;
         found.sort_unstable();
         Ok(found)

@@ -50,6 +50,7 @@ pub(crate) fn event_order(one: &Event, other: &Event) -> Ordering
 fn order_at_a_moment(one: &Event, other: &Event) -> Ordering
     ensures { result ≡ event_cmp one.now other.now }
 {
+    dn_model::laws::order_of_events();
     match one.key.cmp(&other.key) {
         Ordering::Equal => one.cmp(other),
         decided => decided,

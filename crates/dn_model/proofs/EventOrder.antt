@@ -37,6 +37,13 @@ input_from_its (Down port) = refl
 input_from_its (Up port) = refl
 input_from_its (Msg port body) = refl
 
+-- the order of inputs tells them apart
+pub input_same : (x y : Input) → input_cmp x y ≡ Equal → x ≡ y
+unfolding input_cmp
+input_same x y h =
+    let e : input_numbers x ≡ input_numbers y = slice_cmp-IsAntisymmetric nat_cmp-IsAntisymmetric (input_numbers x) (input_numbers y) h in
+    sym (input_from_its x) ∙ ap input_from e ∙ input_from_its y
+
 nothing : Event
 nothing = record { key = record { group = 0; sum = 0; class = 0; tie = 0; origin = 0; seq = 0 }; router = 0; input = Tick 0 }
 

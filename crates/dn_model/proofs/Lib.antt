@@ -4,7 +4,9 @@ pub mod Causes
 pub mod Replay
 pub mod Waves
 pub mod Rows
+pub mod Same
 pub mod Steps
 pub mod Committed
 pub mod Computes
 pub mod AtRouters
+pub mod AtEach

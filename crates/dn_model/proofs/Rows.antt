@@ -1,8 +1,7 @@
 -- The rows of the lockstep run: up to a cut, and one after another.
 use Rattle.std.proofs.Common.{◌≡◌, ℕ, zero, suc, ◌+◌, ◌<◌, Bool, true, false, not, ◌&&◌, ltb, eqb, List, [], ◌∷◌, ◌++◌, refl, sym, ap, ◌∙◌, subst, arith, append_assoc, append-nil}
 use Rattle.std.proofs.lemmas.Bool.{ltb-true, ltb-false, lt-ltb, le-ltb, ne_eqb, eqb-true, eqb-false, not-true}
-use Rattle.std.proofs.lemmas.List.Elements.{All-from_recursion, recursion_from_All}
-use Rattle.std.proofs.lemmas.List.Sorted.{All-permutation, IsPermutation-sym}
+use Rattle.std.proofs.lemmas.List.Sorted.{IsPermutation-sym}
 use Rattle.std.specs.List.{filter, AllByRecursion}
 use Rattle.std.specs.List.Sorted.{IsPermutation, IsSorted}
 use Rattle.std.specs.Ordering.{is_gt, is_lt}
@@ -14,7 +13,7 @@ use Rattle.dn_model.specs.Order.{event_cmp, sorted, is_below, event_total}
 use Rattle.dn_model.specs.Network.{Network, Family, emitted, is_at, joined, routers}
 use Rattle.dn_model.specs.Settled.{IsTimed, IsFeedOf, IsPrefixOf, below, due, lockstep, rows, IsSettled, IsSettledBelow}
 use Rattle.dn_model.specs.SoFar.{by_router, IsRunSoFar}
-use Rattle.dn_lists.proofs.Lists.{by_test, Pairs, all_both, all_weaker, all_filter, all_append, pairs_weaker, pairs_filter, filter_append, filter_comm, filter_none, filter_all, filter_front}
+use Rattle.dn_lists.proofs.Lists.{by_test, Pairs, all_back, all_both, all_front, all_permutation, all_weaker, all_filter, all_append, pairs_weaker, pairs_filter, filter_append, filter_comm, filter_none, filter_all, filter_front}
 use Rattle.dn_lists.proofs.Sorting.{one_if, count, count_permutation, count_filter, count_append, count_split, turn, equal_from, rises_in_order, rises_from_sorted, sorted_from_rises, rises_same, count_in_order, permutation_from_counts}
 use Rattle.dn_model.proofs.EventOrder.{event_same, keys_rise, moments_rise, below_down}
 use Rattle.dn_model.proofs.Causes.{IsEffect, emitted_ok, due_ok}
@@ -74,17 +73,6 @@ pairs_append R (x ∷ xs) ys a b c = (
 pairs_each : (A : Event → Type 0) (R : Event → Event → Type 0) (xs : List Event) → ((x y : Event) → A x → A y → R x y) → AllByRecursion A xs → Pairs R xs
 pairs_each A R [] h a = tt
 pairs_each A R (x ∷ xs) h a = (all_weaker A (R x) xs (λ y b. h x y a.0 b) a.1, pairs_each A R xs h a.1)
-
-pub all_front : (P : Event → Type 0) (xs ys : List Event) → AllByRecursion P (xs ++ ys) → AllByRecursion P xs
-all_front P [] ys a = tt
-all_front P (x ∷ xs) ys a = (a.0, all_front P xs ys a.1)
-
-pub all_back : (P : Event → Type 0) (xs ys : List Event) → AllByRecursion P (xs ++ ys) → AllByRecursion P ys
-all_back P [] ys a = a
-all_back P (x ∷ xs) ys a = all_back P xs ys a.1
-
-pub all_permutation : (P : Event → Type 0) (xs ys : List Event) → IsPermutation xs ys → AllByRecursion P xs → AllByRecursion P ys
-all_permutation P xs ys h a = recursion_from_All P ys (All-permutation P xs ys h (All-from_recursion P xs a))
 
 pub passing : (p : Event → Bool) (xs : List Event) → AllByRecursion (λ x. p x ≡ true) (filter p xs)
 passing p [] = tt

@@ -22,12 +22,12 @@ use Rattle.dn_model.specs.declared.key.Key.{Key}
 use Rattle.dn_model.specs.Network.{Network, Family, message_with, message_at, emitted_by, emitted, tick, ticks, externals, injected, is_at, joined, routers, opening_node, state_from, sent_from, state, sent, sent_to}
 use Rattle.dn_model.specs.Settled.{IsTimed, IsFeedOf, due}
 use Rattle.dn_model.specs.SoFar.{by_router, IsRunSoFar, IsWired, all_injected, next_emitted}
-use Rattle.dn_lists.proofs.Lists.{by_test, all_weaker, all_both, all_append, filter_append, filter_none, filter_all}
+use Rattle.dn_lists.proofs.Lists.{by_test, all_weaker, all_both, all_append, filter_append, filter_none, filter_all, all_front, all_back, all_permutation}
 use Rattle.dn_lists.proofs.Sorting.{count, count_permutation, count_filter, count_append, rises_from_sorted, sorted_from_rises, permutation_from_counts}
 use Rattle.dn_model.proofs.EventOrder.{event_same, events_from_moments}
 use Rattle.dn_model.proofs.Causes.{Whenever, whenever_if, whenever_get, and_more, all_filter_map, all_joined_below, IsTimely, IsEffect, emitted_ok, due_ok}
 use Rattle.dn_model.proofs.Waves.{all_of}
-use Rattle.dn_model.proofs.Rows.{joined_filter, joined_same, passing, pairs_append, all_front, all_back, all_permutation}
+use Rattle.dn_model.proofs.Rows.{joined_filter, joined_same, passing, pairs_append}
 
 -- ---- what is emitted is at a router of the network
 

@@ -19,8 +19,7 @@ use Rattle.dn_model.specs.declared.event.Event.{Event}
 use Rattle.dn_model.specs.Cases.{Heading}
 use Rattle.dn_model.specs.Order.{event_cmp, event_total}
 use Rattle.dn_model.specs.Network.{emitted}
-use Rattle.dn_model.proofs.Rows.{all_permutation}
-use Rattle.dn_lists.proofs.Lists.{all_weaker, all_append}
+use Rattle.dn_lists.proofs.Lists.{all_append, all_permutation, all_weaker}
 use Rattle.dn_lists.proofs.Sorting.{turn}
 use Rattle.dn_lockstep.specs.Agendas.{group_ticks, later_ticks}
 use Rattle.dn_lockstep.specs.Least.{IsUpTo}

@@ -52,6 +52,10 @@ impl<G: Guest> PlainEngine<G> {
             ((r : ℕ) → r < routers net → slice_get guests.items r ≡ Some (net.opening r)) →
             StandsIn net case.now.feed made) }
     {
+        dn_model::laws::order_of_events();
+        dn_model::laws::cases_are_timed::<G>();
+        dn_model::laws::rows_one_by_one::<G>();
+        dn_model::laws::lists_of_routers::<G>();
         let header = case.header.copy(alloc)?;
         let nodes = opening_nodes(alloc, &header, guests)?;
         let waiting = all_injected(alloc, &header, case.feed.as_slice())?;
@@ -75,6 +79,10 @@ impl<G: Guest> PlainEngine<G> {
         ensures spent { OnErr result (self.new.spent ≡ true) }
         ensures stays_spent { self.old.spent ≡ true → IsErr result }
     {
+        dn_model::laws::one_settled_family::<G>();
+        dn_model::laws::same_families::<G>();
+        dn_model::laws::rows_one_by_one::<G>();
+        dn_model::laws::lists_of_routers::<G>();
         if self.spent {
             return Err(AllocError);
         }

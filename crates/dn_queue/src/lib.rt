@@ -15,7 +15,11 @@
 //! with its two lists `todo` and `voids` in the order of events, and each call is the function of that part
 //! that the steps of a world use: `put` and `take_back` are `with_todo`, `void` is `with_void`.
 //!
-//! After a call that answered want of memory nothing is said of a queue: its caller drops it.
+//! Where they find no memory, `put` and `void` leave the queue as it was. `take_back` leaves one to which a front
+//! of the events has come (`specs/Comings.antt`); the rest is lost, so its caller drops the queue.
+//!
+//! `find`, `place_before` and `place_after` say where an event stands, or would stand, in any list of events that
+//! is in order (`specs/Places.antt`).
 #![tactic(auto)]
 
 mod ordered;

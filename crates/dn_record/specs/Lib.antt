@@ -1,1 +1,5 @@
 pub mod Feeding
+pub mod Stamps
+pub mod Live
+pub mod Following
+pub mod Listening

@@ -1,12 +1,13 @@
 //! One router's speculation: it handles what has come, at once, and takes back what it handled too early.
 //!
 //! A router has a list of events that it has handled (`done`), a queue of what waits (`InQueue`), and the
-//! nodes that it kept on the way (`Shelf`). Handling an event takes three calls: `order` copies what the step
-//! needs, `compute` runs the guest without the router, and `apply` brings the outcome back, unless the router
-//! has moved on in between (`Stale`). When an earlier event has come, or one that was handled was unsent, the
-//! router is behind: `roll_back` takes the entries from the first wrong one on off its list, puts their events
-//! back into the queue, and answers what they had emitted, which is to be unsent. `commit_below` answers the
-//! entries that nothing can change any more, and lets go the nodes that no rollback can reach.
+//! nodes that it kept on the way (`Shelf`). Handling an event takes three calls: `order` gives what the step
+//! needs, the kept node among it, of which the order is one more owner; `compute` runs the guest on a copy of
+//! that node, without the router; and `apply` brings the outcome back, unless the router has moved on in between
+//! (`Stale`). When an earlier event has come, or one that was handled was unsent, the router is behind:
+//! `roll_back` takes the entries from the first wrong one on off its list, puts their events back into the queue,
+//! and answers what they had emitted, which is to be unsent. `commit_below` answers the entries that nothing can
+//! change any more, and lets go the nodes that no rollback can reach.
 //!
 //! | File | What it has |
 //! |---|---|

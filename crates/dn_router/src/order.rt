@@ -3,6 +3,7 @@
 ghost use Rattle.std.specs.Prelude.{◌≡◌, [], IfOk, OnOk};
 ghost use Rattle.dn_router.specs.Replays.{last_sent, node_over};
 
+use dn_ckpt::SharedNode;
 use dn_guest::{Guest, NoMemory, Node, Sent};
 use dn_model::Event;
 use std::alloc::Global;
@@ -17,14 +18,14 @@ pub enum Applied {
     Stale,
 }
 
-/// A step that a router would take: a node that it kept, and the events to run it over. The last of them is
-/// the one to handle, the others were handled since the node was kept.
+/// A step that a router would take: a node that it kept, of which the order is another owner, and the events to
+/// run it over. The last of them is the one to handle, the others were handled since the node was kept.
 #[derive(Drop)]
 pub struct Order<G: Guest> {
     pub(crate) alloc: Global,
     pub(crate) router: u16,
     pub(crate) place: u64,
-    pub(crate) base: Node<G>,
+    pub(crate) base: SharedNode<G>,
     pub(crate) inputs: Vec<Event>,
 }
 
@@ -51,8 +52,8 @@ impl<G: Guest> Order<G> {
         self.place
     }
 
-    /// Runs the guest over the inputs. The router isn't needed. An outcome is seen as the order that it is
-    /// the outcome of.
+    /// Runs the guest over the inputs, from a copy of the base. The router isn't needed. An outcome is seen as the
+    /// order that it is the outcome of.
     pub fn compute(self) -> Result<Outcome<G>, NoMemory>
         ensures { IfOk result (λ outcome. outcome ≡ self) }
     {
@@ -63,7 +64,7 @@ impl<G: Guest> Order<G> {
             base,
             inputs,
         } = self;
-        let mut node = base.fork(alloc)?;
+        let mut node = base.node().fork(alloc)?;
         let sent = run(alloc, &mut node, inputs.as_slice())?;
         Ok(Outcome {
             router,
@@ -82,7 +83,7 @@ impl<G: Guest> Order<G> {
 pub struct Outcome<G: Guest> {
     pub(crate) router: u16,
     pub(crate) place: u64,
-    pub(crate) base: Node<G>,
+    pub(crate) base: SharedNode<G>,
     pub(crate) inputs: Vec<Event>,
     pub(crate) node: Node<G>,
     pub(crate) sent: Vec<Sent>,

@@ -147,7 +147,7 @@ impl<G: Guest> Router<G> {
         requires { is_ready self.now.part ≡ true }
         ensures { IfOk result (λ order. order ≡ order_of G.meaning self.now) }
     {
-        let (place, base) = self.shelf.base_for(self.done.len() as u64);
+        let (place, base) = self.shelf.shared_base_for(self.done.len() as u64)?;
         let least = match self.queue.least() {
             Some(least) => least,
             None => unreachable!(),
@@ -161,7 +161,7 @@ impl<G: Guest> Router<G> {
             alloc: self.alloc,
             router: self.number,
             place,
-            base: base.fork(self.alloc)?,
+            base,
             inputs,
         })
     }
@@ -307,7 +307,7 @@ impl<G: Guest> Router<G> {
         if !are_and(outcome.inputs.as_slice(), since, least) {
             return false;
         }
-        outcome.base.same(base)
+        outcome.base.node().same(base)
     }
 }
 

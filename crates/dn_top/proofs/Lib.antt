@@ -9,3 +9,5 @@ pub mod DrivesCompleting
 pub mod RunAnswering
 pub mod Running
 pub mod Promising
+pub mod Sections
+pub mod JournalsAgain

@@ -16,6 +16,7 @@
 //! | `ends.rt` | what the steps are that come to an end |
 //! | `shake.rt` | `shake` |
 //! | `threads.rt` | `run` |
+//! | `laws.rt` | what is written with a journal is read again |
 //!
 //! The one contract upwards: the record `Promise` of `specs/Commands.antt`, what a command says of its
 //! source, its sink and its status. It stands on the table `Answers` of `specs/Promises.antt`: for each
@@ -48,6 +49,7 @@
 mod checking;
 mod ends;
 mod input;
+pub mod laws;
 mod rerun;
 mod shake;
 mod shown;

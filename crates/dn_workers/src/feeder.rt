@@ -25,7 +25,7 @@ use std::sync::Wait;
 ///
 /// `NoMemory`: this call, or the feeder, has found no memory, and the fabric was stopped. After any answer the seat
 /// doesn't have the fabric.
-pub fn feed<G: Guest, F: Feeder, R: Wait>(
+pub fn feed<G: Guest + Sync, F: Feeder, R: Wait>(
     rt: &R,
     alloc: Global,
     turn: &Turn<Fabric<G>>,
@@ -68,7 +68,7 @@ pub fn feed<G: Guest, F: Feeder, R: Wait>(
 }
 
 /// Tries for the fabric until the seat has it.
-fn take<G: Guest, R: Wait>(
+fn take<G: Guest + Sync, R: Wait>(
     rt: &R,
     turn: &Turn<Fabric<G>>,
     seat: &mut TurnSeat<Fabric<G>>,
@@ -89,7 +89,7 @@ fn take<G: Guest, R: Wait>(
 }
 
 /// One hold of the turn: the fabric was taken, what the feeder has answered is passed on to it, and it is put back.
-fn hold<G: Guest>(
+fn hold<G: Guest + Sync>(
     turn: &Turn<Fabric<G>>,
     seat: &mut TurnSeat<Fabric<G>>,
     mut fabric: Fabric<G>,
@@ -119,7 +119,11 @@ fn hold<G: Guest>(
 }
 
 /// One hold of the turn, after the feeder has found no memory: the fabric is stopped, and put back.
-fn halt<G: Guest>(turn: &Turn<Fabric<G>>, seat: &mut TurnSeat<Fabric<G>>, mut fabric: Fabric<G>)
+fn halt<G: Guest + Sync>(
+    turn: &Turn<Fabric<G>>,
+    seat: &mut TurnSeat<Fabric<G>>,
+    mut fabric: Fabric<G>,
+)
     requires turn { seat.old.turn ≡ turn.now }
     requires taken { HasTaken seat.old fabric }
     requires feeds { seat.old.feeds ≡ true }

@@ -11,7 +11,7 @@ use dn_turn::{Turn, TurnSeat};
 use std::alloc::Global;
 
 /// Splits so many seats off the first one. None of them has the right to feed.
-pub(crate) fn split_all<G: Guest>(
+pub(crate) fn split_all<G: Guest + Sync>(
     alloc: Global,
     turn: &Turn<Fabric<G>>,
     first: &mut TurnSeat<Fabric<G>>,
@@ -33,7 +33,7 @@ pub(crate) fn split_all<G: Guest>(
 }
 
 /// Joins all of the seats into the first one.
-pub(crate) fn join_all<G: Guest>(
+pub(crate) fn join_all<G: Guest + Sync>(
     turn: &Turn<Fabric<G>>,
     first: &mut TurnSeat<Fabric<G>>,
     mut seats: Vec<TurnSeat<Fabric<G>>>,

@@ -20,7 +20,7 @@ use std::sync::Wait;
 use std::thread::{Threads, for_each_mut, join_mut};
 
 /// One worker. If it finds no memory its seat has seen the stop, so its answer isn't kept.
-fn work_alone<G: Guest, Y: Gate, R: Wait>(
+fn work_alone<G: Guest + Sync, Y: Gate, R: Wait>(
     rt: &R,
     turn: &Turn<Fabric<G>>,
     seat: &mut TurnSeat<Fabric<G>>,
@@ -34,7 +34,7 @@ fn work_alone<G: Guest, Y: Gate, R: Wait>(
 }
 
 /// A worker for each seat, on at most so many threads.
-fn work_all<G: Guest, Y: Gate + Sync, R: Threads + Wait + Sync>(
+fn work_all<G: Guest + Sync, Y: Gate + Sync, R: Threads + Wait + Sync>(
     rt: &R,
     turn: &Turn<Fabric<G>>,
     threads: usize,
@@ -53,7 +53,7 @@ fn work_all<G: Guest, Y: Gate + Sync, R: Threads + Wait + Sync>(
 }
 
 /// The feeder. If it finds no memory its seat has seen the stop, so its answer isn't kept.
-fn feed_all<G: Guest, F: Feeder, R: Wait>(
+fn feed_all<G: Guest + Sync, F: Feeder, R: Wait>(
     rt: &R,
     alloc: Global,
     turn: &Turn<Fabric<G>>,
@@ -72,7 +72,7 @@ fn feed_all<G: Guest, F: Feeder, R: Wait>(
 
 /// The feeder and a worker for each seat, at once. `join_mut` calls its second closure on this thread, and the first one
 /// behind it if no thread can be started: so the feeder is the second one, since workers wait for it.
-fn feed_and_work<'a, G: Guest, F: Feeder + Send, Y: Gate + Sync, R: Threads + Wait + Sync>(
+fn feed_and_work<'a, G: Guest + Sync, F: Feeder + Send, Y: Gate + Sync, R: Threads + Wait + Sync>(
     rt: &'a R,
     alloc: Global,
     turn: &'a Turn<Fabric<G>>,
@@ -116,7 +116,7 @@ fn feed_and_work<'a, G: Guest, F: Feeder + Send, Y: Gate + Sync, R: Threads + Wa
 /// can't be started the calls run one after another, the feeder first.
 ///
 /// `NoMemory`: one of them has found no memory, or this call has, before any of them began.
-pub fn run_threads<G: Guest, F: Feeder + Send, Y: Gate + Sync, R: Threads + Wait + Sync>(
+pub fn run_threads<G: Guest + Sync, F: Feeder + Send, Y: Gate + Sync, R: Threads + Wait + Sync>(
     rt: &R,
     alloc: Global,
     fabric: Fabric<G>,

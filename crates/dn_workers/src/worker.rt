@@ -23,7 +23,7 @@ const ORDERS_A_COMMIT: u64 = 256;
 ///
 /// `NoMemory`: this worker has found no memory, and has stopped the fabric. After any answer the seat doesn't have
 /// the fabric.
-pub fn work<G: Guest, Y: Gate, R: Wait>(
+pub fn work<G: Guest + Sync, Y: Gate, R: Wait>(
     rt: &R,
     turn: &Turn<Fabric<G>>,
     seat: &mut TurnSeat<Fabric<G>>,
@@ -66,7 +66,7 @@ fn compute<G: Guest, Y: Gate>(order: Order<G>, gate: &Y) -> Result<Outcome<G>, N
 }
 
 /// One hold of the turn: the fabric was taken, the worker goes on with it, and puts it back.
-fn hold<G: Guest>(
+fn hold<G: Guest + Sync>(
     turn: &Turn<Fabric<G>>,
     seat: &mut TurnSeat<Fabric<G>>,
     mut fabric: Fabric<G>,

@@ -22,12 +22,11 @@ use Rattle.dn_model.specs.Keys.{moment, message_key, next_key}
 use Rattle.dn_model.specs.Order.{key_cmp, event_cmp, key_total, event_total}
 use Rattle.dn_model.specs.Network.{Network, emitted, emitted_by, message_with, message_at, tick, external, routers, sent_from, state}
 use Rattle.dn_model.specs.Settled.{IsTimed}
-use Rattle.dn_lists.proofs.Lists.{by_test, all_weaker, all_append}
+use Rattle.dn_lists.proofs.Lists.{by_test, all_weaker, all_append, all_front, all_back}
 use Rattle.dn_lists.proofs.Sorting.{turn}
 use Rattle.dn_model.proofs.EventOrder.{keys_rise}
 use Rattle.dn_model.proofs.Causes.{Whenever, whenever_if, whenever_get, all_filter_map, ends_delay}
 use Rattle.dn_model.proofs.Waves.{IsRising}
-use Rattle.dn_model.proofs.Rows.{all_front, all_back}
 use Rattle.dn_world.specs.declared.packet.Packet.{Packet}
 use Rattle.dn_world.specs.declared.step.Step.{Step}
 use Rattle.dn_world.specs.declared.step.Step.TheVariants.{Beacon, Inject, Close, Deliver, Handle, RollBack, Commit}
@@ -79,6 +78,11 @@ pub external_first : (floor : ℕ) (place : ℕ) (x : External) → floor ≤ x.
 unfolding key_cmp
 external_first floor place x h =
     same_first floor x.group _ h (same_first 0 x.router _ (omega arith) (same_first 0 place _ (omega arith) refl))
+
+-- a group's begin is no later than its ticks
+pub tick_first : (group r : ℕ) → is_gt (key_cmp (key_of group 0) (tick group r).key) ≡ false
+unfolding key_cmp
+tick_first group r = same_first group group _ (omega arith) (same_first 0 r _ (omega arith) refl)
 
 -- ---- what is emitted has a later key than its cause
 

@@ -10,13 +10,13 @@ use Rattle.dn_model.specs.Network.{Network, Family, emitted, tick, ticks, extern
 use Rattle.dn_guest.specs.Node.{node_after, node_sent}
 use Rattle.dn_guest.specs.declared.node.Node.{Node}
 use Rattle.dn_model.specs.Settled.{IsTimed, IsFeedOf, IsPrefixOf, below, due, lockstep, rows, row_limit}
-use Rattle.dn_lists.proofs.Lists.{by_test, Falls, all_weaker, all_both, all_append, all_filter, pairs_weaker, pairs_filter, filter_append, filter_comm, filter_none}
+use Rattle.dn_lists.proofs.Lists.{by_test, Falls, all_weaker, all_both, all_append, all_filter, pairs_weaker, pairs_filter, filter_append, filter_comm, filter_none, all_front, all_back}
 use Rattle.dn_lists.proofs.Sorting.{count, count_append, count_is_sum, all_in_order, turn}
 use Rattle.dn_model.proofs.EventOrder.{keys_rise, moments_rise, below_down}
 use Rattle.dn_model.proofs.Causes.{all_joined_below, IsTimely, IsEffect, emitted_ok}
 use Rattle.dn_model.proofs.Replay.{Carries, sent_until}
 use Rattle.dn_model.proofs.Waves.{IsRising, all_of, lockstep_is, lockstep_fine, lockstep_settled_below}
-use Rattle.dn_model.proofs.Rows.{rows_rise, all_front, all_back, passing}
+use Rattle.dn_model.proofs.Rows.{rows_rise, passing}
 use Rattle.dn_model.proofs.Committed.{IsFrom, emitted_from, message_was_sent}
 use Rattle.dn_world.specs.declared.step.Step.{Step}
 use Rattle.dn_world.specs.World.{World, is_same}

@@ -4,18 +4,20 @@
 
 ghost use Rattle.std.specs.Prelude.{ℕ, Bool, if◌then◌else◌, ◌+◌, ◌≡◌, ◌<◌, ◌≤◌, true, false, List, [], ◌∷◌, ◌++◌, Some, length, map, slice_get, take};
 ghost use Rattle.std.specs.List.{AllByRecursion, count_by};
+ghost use Rattle.std.specs.Ordering.{is_gt};
 ghost use Rattle.dn_model.specs.declared.event.Event.{Event};
 ghost use Rattle.dn_model.specs.declared.feed.External.{External};
 ghost use Rattle.dn_model.specs.declared.key.Key.{Key};
 ghost use Rattle.dn_model.specs.Cases.{Recording, IsRecording};
-ghost use Rattle.dn_model.specs.Network.{Network, routers, sent, sent_from, state, state_from};
+ghost use Rattle.dn_model.specs.Network.{Network, external, routers, sent, sent_from, state, state_from, tick};
 ghost use Rattle.dn_guest.specs.Node.{node_after};
 ghost use Rattle.dn_model.specs.Settled.{IsTimed, IsFeedOf, IsPrefixOf, lockstep, rows, shown_rows, is_cut};
 ghost use Rattle.dn_world.specs.declared.entry.Entry.{Entry};
 ghost use Rattle.dn_world.specs.declared.entry.Entry.TheVariants.{Did, Stop};
+ghost use Rattle.dn_world.specs.declared.packet.Packet.{Packet};
 ghost use Rattle.dn_world.specs.declared.step.Step.{Step};
 ghost use Rattle.dn_world.specs.declared.step.Step.TheVariants.{RollBack};
-ghost use Rattle.dn_world.specs.World.{Part, World, part, opening, horizon, is_quiet, is_same, stands, without, with_todo, with_void};
+ghost use Rattle.dn_world.specs.World.{Part, World, part, opening, horizon, is_quiet, is_same, key_of, stands, waiting, without, with_todo, with_void};
 ghost use Rattle.dn_world.specs.Steps.{is_enabled, after, emits, kept, taken_off};
 ghost use Rattle.dn_world.specs.Logs.{log_of, IsLog, is_stopped, feeding, fed};
 ghost use Rattle.dn_world.specs.Runs.{IsLegal, IsLegalFrom, IsLegalOf, IsFedFrom, DontFall, run, world, injects, Continues, settled_rows, fresh_rows, committed, committed_at, committed_state, is_cut_off, IsPast, IsAllPast, IsBalanced, IsPlayable, IsTidy};
@@ -189,8 +191,37 @@ pub fn horizon<S>()
     ensures only { (a b : Key) → IsPast a b → IsPast b a → a ≡ b }
 {}
 
+/// To be a key or a later one is an order of keys, and the order of events goes with it.
+pub fn keys_past()
+    ensures itself { (a : Key) → IsPast a a }
+    ensures onward { (a b c : Key) → IsPast a b → IsPast b c → IsPast a c }
+    ensures later { (x y : Event) → is_gt (event_cmp x y) ≡ false → IsPast x.key y.key }
+{}
+
+/// What comes anew comes late enough. A bound that isn't later than the begin of a group isn't later than any
+/// tick of it. One that isn't later than the first key of a group's externals isn't later than any of these,
+/// nor than the begin of a later group.
+pub fn new_keys()
+    ensures tick { (bound : Key) (group r : ℕ) → IsPast bound (key_of group 0) → IsPast bound (tick group r).key }
+    ensures external { (bound : Key) (place : ℕ) (x : External) → IsPast bound (key_of x.group 1) →
+        IsPast bound (external place x).key }
+    ensures next_group { (bound : Key) (floor group : ℕ) → floor < group → IsPast bound (key_of floor 1) →
+        IsPast bound (key_of group 0) }
+{}
+
+/// All that waits in a world are what waits at its routers and what flies: where nothing of it is before a
+/// bound, nothing that waits at a router is, and no packet that flies.
+pub fn waiting()
+    ensures at { (bound : Key) (w : World) (r : ℕ) → AllByRecursion (λ e. IsPast bound e.key) (waiting w) →
+        AllByRecursion (λ e. IsPast bound e.key) ((part w r).todo ++ (part w r).voids) }
+    ensures flying { (bound : Key) (w : World) (place : ℕ) (packet : Packet) →
+        AllByRecursion (λ e. IsPast bound e.key) (waiting w) → slice_get w.flight place ≡ Some packet →
+        IsPast bound packet.event.key }
+{}
+
 /// Replays go on from the node that a prefix of the history leaves, so a kept node at a place serves in place
-/// of the whole replay. What a rollback keeps and what it takes off are the handled list.
+/// of the whole replay. What a rollback keeps and what it takes off are the handled list, so what is taken off
+/// are events of the router where all that it handled are.
 pub fn replays<S>()
     ensures state { (net : Network S) (r : ℕ) (xs ys : List Event) →
         state net r (xs ++ ys) ≡ state_from net (state net r xs) ys }
@@ -201,6 +232,8 @@ pub fn replays<S>()
     ensures sent_more { (net : Network S) (r : ℕ) (xs : List Event) (e : Event) →
         sent net r (xs ++ e ∷ []) ≡ sent net r xs ++ emits net r xs e }
     ensures done { (net : Network S) (p : Part) → kept net p ++ taken_off net p ≡ p.done }
+    ensures own { (net : Network S) (p : Part) (r : ℕ) → AllByRecursion (λ e. e.router ≡ r) p.done →
+        AllByRecursion (λ e. e.router ≡ r) (taken_off net p) }
 {}
 
 /// A run that feeds a case as its groups ask is legal, and where the groups of the case don't fall the case

@@ -8,8 +8,8 @@ use crate::key::own_key;
 use crate::{Kept, LsaKey, Lsdb};
 use dn_guest::Bytes;
 use ospf_wire::{
-    INITIAL_SEQUENCE_NUMBER, Lsa, LsaHeader, MAX_SEQUENCE_NUMBER, OWN_OPTIONS, ROUTER_LSA_TYPE,
-    fletcher_set,
+    INITIAL_SEQUENCE_NUMBER, Lsa, LsaBody, LsaHeader, MAX_SEQUENCE_NUMBER, OWN_OPTIONS,
+    ROUTER_LSA_TYPE, fletcher_set,
 };
 use std::alloc::AllocError;
 
@@ -28,7 +28,7 @@ fn next_sequence_number(own: Option<&Kept>) -> Option<u32>
 }
 
 /// A router's own LSA with this sequence number and body.
-fn own_lsa(router: u32, seq: u32, body: Bytes) -> Lsa
+fn own_lsa(router: u32, seq: u32, body: LsaBody) -> Lsa
     requires { length body ≤ 1380 }
     ensures { result ≡ own_lsa router seq body }
 {
@@ -69,7 +69,8 @@ impl Lsdb {
         let Some(seq) = next_sequence_number(self.get(&key)) else {
             return Ok(None);
         };
-        self.install(own_lsa(router, seq, body), now, false, false)?;
+        let lsa = own_lsa(router, seq, LsaBody::new(body)?);
+        self.install(lsa, now, false, false)?;
         Ok(Some(key))
     }
 }

@@ -87,7 +87,9 @@ fn is_outdated(now: u32, wanted: &Bytes, own: Option<&Kept>) -> bool
     match own {
         None => true,
         Some(kept) => {
-            kept.foreign || LS_REFRESH_TIME <= kept.age(now) || kept.lsa.body != *wanted
+            kept.foreign
+                || LS_REFRESH_TIME <= kept.age(now)
+                || kept.lsa.body.as_slice() != wanted.as_slice()
         }
     }
 }

@@ -9,6 +9,7 @@
 //! | `link_state_update.rt` | the body of a Link State Update |
 //! | `acknowledgement.rt` | the body of a Link State Acknowledgement |
 //! | `lsa.rt` | `LsaHeader` and `Lsa` |
+//! | `lsa_body.rt` | `LsaBody`, what stands behind a header; copies share it |
 //! | `router_lsa.rt` | `RouterLink`, and the body of a router-LSA: its links, read and written |
 //! | `packet_lists.rt` | `Ids`, `Lsas`, `LsaHeaders` and `RouterLinks`, the lists in packets |
 //! | `packet_sum.rt` | the checksum of a packet |
@@ -32,6 +33,7 @@ mod instances;
 mod laws;
 mod link_state_update;
 mod lsa;
+mod lsa_body;
 mod packet;
 mod packet_lists;
 mod packet_sum;
@@ -51,6 +53,7 @@ pub use laws::{
     written_router_links_are_read,
 };
 pub use lsa::{Lsa, LsaHeader};
+pub use lsa_body::LsaBody;
 pub use packet::{Body, Packet, decode, encode};
 pub use packet_lists::{Ids, LsaHeaders, Lsas, RouterLinks};
 pub use packet_sum::ip_sum;

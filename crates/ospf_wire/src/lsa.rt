@@ -4,9 +4,9 @@ ghost use Rattle.std.specs.Prelude.{◌≡◌, ◌≤◌, ◌++◌, length, IfOk
 ghost use Rattle.ospf_wire.specs.Lsas.{header_of, header_bytes, lsa_bytes, FitsHeader};
 ghost use Rattle.ospf_wire.specs.Reading.{lsa_at};
 
+use crate::LsaBody;
 use crate::fields::{u8_at, u16_at, u32_at};
 use byteorder::{BigEndian, ByteOrder};
-use dn_guest::Bytes;
 use std::alloc::{AllocError, Global};
 
 /// The header of an LSA, 20 bytes in a packet (RFC 2328 appendix A.4.1).
@@ -29,11 +29,11 @@ pub struct LsaHeader {
     pub length: u16,
 }
 
-/// A whole LSA: its header and the bytes behind it.
+/// A whole LSA: its header and the bytes behind it, which its copies share.
 #[derive(Drop, PartialEq, Eq)]
 pub struct Lsa {
     pub head: LsaHeader,
-    pub body: Bytes,
+    pub body: LsaBody,
 }
 
 impl Clone for Lsa {
@@ -97,7 +97,7 @@ pub fn read_lsa(alloc: Global, bytes: &[u8]) -> Result<Option<Lsa>, AllocError>
     if length < 20 || bytes.len() < length {
         return Ok(None);
     }
-    let body = Bytes::from_slice(alloc, &bytes[20..length])?;
+    let body = LsaBody::from_slice(alloc, &bytes[20..length])?;
     Ok(Some(Lsa { head, body }))
 }
 

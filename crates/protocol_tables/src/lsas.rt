@@ -5,7 +5,7 @@ ghost use Rattle.std.specs.Prelude.{◌≡◌, ◌+◌, ◌≤◌, IfOk, length}
 use crate::named::{byte, bytes, hex, number, short};
 use dn_guest::{Bytes, NoMemory};
 use ospf_lsdb::{Kept, LsaKey};
-use ospf_wire::{INITIAL_SEQUENCE_NUMBER, Lsa, LsaHeader, fletcher_set};
+use ospf_wire::{INITIAL_SEQUENCE_NUMBER, Lsa, LsaBody, LsaHeader, fletcher_set};
 use std::alloc::Global;
 use table_program::{Fields, Out};
 
@@ -16,7 +16,10 @@ pub(crate) fn lsa_of(alloc: Global, fields: &mut Fields<'_>) -> Result<Lsa, NoMe
 {
     let body = body_of(alloc, fields)?;
     let head = header_of(fields, 20 + body.len() as u16);
-    let mut lsa = Lsa { head, body };
+    let mut lsa = Lsa {
+        head,
+        body: LsaBody::new(body)?,
+    };
     fletcher_set(&mut lsa);
     if let Some(sum) = fields.behind(b"sum") {
         lsa.head.sum = fields.hex_of(sum, 0xffff) as u16;

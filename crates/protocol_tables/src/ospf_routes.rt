@@ -6,7 +6,7 @@ use dn_guest::NoMemory;
 use dn_text::first_part;
 use ospf_lsdb::Lsdb;
 use ospf_spf::Route;
-use ospf_wire::{INITIAL_SEQUENCE_NUMBER, Lsa, LsaHeader, RouterLink, router_body};
+use ospf_wire::{INITIAL_SEQUENCE_NUMBER, Lsa, LsaBody, LsaHeader, RouterLink, router_body};
 use std::alloc::Global;
 use table_program::{Fields, Out};
 
@@ -44,7 +44,7 @@ fn install_router(
         sum: 0,
         length: (24 + 12 * links.len()) as u16,
     };
-    let body = router_body(alloc, links)?;
+    let body = LsaBody::new(router_body(alloc, links)?)?;
     database.install(Lsa { head, body }, 0, true, false)
 }
 

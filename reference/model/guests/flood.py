@@ -32,6 +32,10 @@ class Flood:
         packed = [bytes([len(body)]) + body for body in sorted(self.bodies)]
         return len(packed).to_bytes(2, "big") + b"".join(packed)
 
+    def show(self):
+        """The lines that it shows: one for each body."""
+        return [b"seen " + body.hex().encode() for body in sorted(self.bodies)]
+
     @classmethod
     def of_image(cls, raw):
         """The guest whose image these bytes are; raises `ValueError` where they are none."""

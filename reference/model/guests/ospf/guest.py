@@ -2,17 +2,19 @@
 
 from dataclasses import dataclass, field, replace
 
-from ...nets import mask_of
+from ...nets import mask_of, route_line
 from ..routing import MAX_NETWORKS, Routing
 from . import wire
 from .image import image, read_into
 from .lsa import MAX_AGE, POINT_TO_POINT, ROUTER_LSA, STUB, encode_links, newer
 from .lsdb import Lsdb
 from .receive import IS_ACKNOWLEDGED, receive
+from .routes import routes
 
 RETRANSMIT, REFRESH, MIN_INTERVAL = 5, 1800, 5
 MOST_BYTES, UPDATE_HEAD = 1400, 28
 DOWN, INIT, FULL = range(3)
+STATE_WORDS = {INIT: b"init", FULL: b"full"}
 
 
 @dataclass
@@ -58,6 +60,15 @@ class Ospf(Routing):
     def image(self):
         """Its state in bytes."""
         return image(self)
+
+    def show(self):
+        """The lines that it shows: its neighbours by port, then its routes."""
+        lines = [b"neighbour %d %s %d" % (number, STATE_WORDS[port.state], port.id)
+                 for number, port in enumerate(self.ports) if port.state != DOWN]
+        for network, (cost, is_own, ports) in sorted(routes(self).items()):
+            ways = [b"own"] * is_own + [b"%d" % port for port in sorted(ports)]
+            lines.append(route_line(network, cost, ways))
+        return lines
 
     @classmethod
     def of_image(cls, raw):

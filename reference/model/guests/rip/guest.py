@@ -2,7 +2,7 @@
 
 from dataclasses import dataclass, replace
 
-from ...nets import mask_of
+from ...nets import mask_of, route_line
 from ...octets import Reader, packed
 from ..routing import MAX_NETWORKS, Routing
 from . import wire
@@ -173,6 +173,11 @@ class Rip(Routing):
             out += packed((address, 4), (length, 1), (held.tag, 2), (held.metric, 1),
                           (via, 1), (held.time, 4), (held.changed, 1))
         return out
+
+    def show(self):
+        """The lines that it shows: one for each route, also one that is unreachable."""
+        return [route_line(network, held.metric, [b"own" if held.via is None else b"%d" % held.via])
+                for network, held in self.routes()]
 
     @classmethod
     def of_image(cls, raw):

@@ -27,7 +27,7 @@ returns-then-not-is_allowed-clause-answer g c =
     λ net is.
     let i = c.loop-index in
     let way = i.invariant.way net is in
-    let no = way_allowed net c.args.feed.now i.fabric.live.header i.fabric i.rest.now c.index-steps-index.result false (is.header ∙ sym i.invariant.network.header) way (sym c.is_allowed.ensures ∙ c.if-not-is_allowed.true) in
+    let no = way_allowed net c.args.feed.now (λ x y h. c.order_of_events.ensures.inputs_apart x y h) i.fabric.live.header i.fabric i.rest.now c.index-steps-index.result false (is.header ∙ sym i.invariant.network.header) way (sym c.is_allowed.ensures ∙ c.if-not-is_allowed.true) in
     let split = apart c.args.steps.now i.fabric.journal i.index c.index-steps-index.result c.loop-index-test.true c.index-steps-index.is (i.invariant.journal net is) in
     let count = as_long c.args.steps.now i.fabric.journal i.index (omega (arith, c.loop-index-test.true)) (i.invariant.journal net is) in
     ap (λ n. Illegal (n + 1)) (sym count) ∙ answer_no net c.args.feed.now i.fabric i.rest.now c.args.steps.now (drop (suc i.index) c.args.steps.now) c.index-steps-index.result way.follows no split
@@ -37,7 +37,7 @@ returns-then-not-is_allowed-clause-journal g c =
     λ net is.
     let i = c.loop-index in
     let way = i.invariant.way net is in
-    let no = way_allowed net c.args.feed.now i.fabric.live.header i.fabric i.rest.now c.index-steps-index.result false (is.header ∙ sym i.invariant.network.header) way (sym c.is_allowed.ensures ∙ c.if-not-is_allowed.true) in
+    let no = way_allowed net c.args.feed.now (λ x y h. c.order_of_events.ensures.inputs_apart x y h) i.fabric.live.header i.fabric i.rest.now c.index-steps-index.result false (is.header ∙ sym i.invariant.network.header) way (sym c.is_allowed.ensures ∙ c.if-not-is_allowed.true) in
     let split = apart c.args.steps.now i.fabric.journal i.index c.index-steps-index.result c.loop-index-test.true c.index-steps-index.is (i.invariant.journal net is) in
     front_before net c.args.feed.now i.fabric i.rest.now c.args.steps.now (drop (suc i.index) c.args.steps.now) c.index-steps-index.result way.follows no split
 
@@ -47,7 +47,7 @@ take_step-requires-clause-enabled g c κs within =
     let i = c.loop-index in
     let first = network_before net g.G.Guest.meaning c.args.fabric.now i.fabric i.invariant.network is in
     let way = i.invariant.way net first in
-    let yes = way_allowed net c.args.feed.now i.fabric.live.header i.fabric i.rest.now c.index-steps-index.result true is.header way (sym c.is_allowed.ensures ∙ c.if-not-is_allowed.false) in
+    let yes = way_allowed net c.args.feed.now (λ x y h. c.order_of_events.ensures.inputs_apart x y h) i.fabric.live.header i.fabric i.rest.now c.index-steps-index.result true is.header way (sym c.is_allowed.ensures ∙ c.if-not-is_allowed.false) in
     (allowed_parts net c.args.feed.now i.fabric.live.world i.rest.now c.index-steps-index.result yes).0
 
 pub returns-then-is_cut-clause-answer : goal.returns-then-is_cut-clause-answer
@@ -56,7 +56,7 @@ returns-then-is_cut-clause-answer g c =
     let i = c.loop-index in
     let way = i.invariant.way net is in
     let now = c.take_step.new.fabric in
-    let yes = way_allowed net c.args.feed.now i.fabric.live.header i.fabric i.rest.now c.index-steps-index.result true (is.header ∙ sym i.invariant.network.header) way (sym c.is_allowed.ensures ∙ c.if-not-is_allowed.false) in
+    let yes = way_allowed net c.args.feed.now (λ x y h. c.order_of_events.ensures.inputs_apart x y h) i.fabric.live.header i.fabric i.rest.now c.index-steps-index.result true (is.header ∙ sym i.invariant.network.header) way (sym c.is_allowed.ensures ∙ c.if-not-is_allowed.false) in
     let step : HasStepped net i.fabric c.index-steps-index.result now = c.in_ok-take_step.ensures.ok net (same_network net g.G.Guest.meaning c.args.fabric.now i.fabric i.invariant.network is) in
     let split = apart c.args.steps.now i.fabric.journal i.index c.index-steps-index.result c.loop-index-test.true c.index-steps-index.is (i.invariant.journal net is) in
     answer_cut net c.args.feed.now i.fabric now i.rest.now c.args.steps.now (drop (suc i.index) c.args.steps.now) c.index-steps-index.result way.follows yes step.is (sym c.is_cut.ensures.cut ∙ c.if-is_cut.true) split
@@ -67,7 +67,7 @@ returns-then-is_cut-clause-journal g c =
     let i = c.loop-index in
     let way = i.invariant.way net is in
     let now = c.take_step.new.fabric in
-    let yes = way_allowed net c.args.feed.now i.fabric.live.header i.fabric i.rest.now c.index-steps-index.result true (is.header ∙ sym i.invariant.network.header) way (sym c.is_allowed.ensures ∙ c.if-not-is_allowed.false) in
+    let yes = way_allowed net c.args.feed.now (λ x y h. c.order_of_events.ensures.inputs_apart x y h) i.fabric.live.header i.fabric i.rest.now c.index-steps-index.result true (is.header ∙ sym i.invariant.network.header) way (sym c.is_allowed.ensures ∙ c.if-not-is_allowed.false) in
     let step : HasStepped net i.fabric c.index-steps-index.result now = c.in_ok-take_step.ensures.ok net (same_network net g.G.Guest.meaning c.args.fabric.now i.fabric i.invariant.network is) in
     let split = apart c.args.steps.now i.fabric.journal i.index c.index-steps-index.result c.loop-index-test.true c.index-steps-index.is (i.invariant.journal net is) in
     front_to_cut net c.args.feed.now i.fabric now i.rest.now c.args.steps.now (drop (suc i.index) c.args.steps.now) c.index-steps-index.result way.follows yes step.is (sym c.is_cut.ensures.cut ∙ c.if-is_cut.true) split
@@ -78,9 +78,9 @@ returns-then-is_cut-clause-stands g c =
     let i = c.loop-index in
     let way = i.invariant.way net is in
     let now = c.take_step.new.fabric in
-    let yes = way_allowed net c.args.feed.now i.fabric.live.header i.fabric i.rest.now c.index-steps-index.result true (is.header ∙ sym i.invariant.network.header) way (sym c.is_allowed.ensures ∙ c.if-not-is_allowed.false) in
+    let yes = way_allowed net c.args.feed.now (λ x y h. c.order_of_events.ensures.inputs_apart x y h) i.fabric.live.header i.fabric i.rest.now c.index-steps-index.result true (is.header ∙ sym i.invariant.network.header) way (sym c.is_allowed.ensures ∙ c.if-not-is_allowed.false) in
     let step : HasStepped net i.fabric c.index-steps-index.result now = c.in_ok-take_step.ensures.ok net (same_network net g.G.Guest.meaning c.args.fabric.now i.fabric i.invariant.network is) in
-    cut_run net c.args.feed.now now _ (on_on net c.args.feed.now i.fabric now i.rest.now c.index-steps-index.result way yes step) c.in_ok-take_step.ensures.driven.running (sym c.is_cut.ensures.cut ∙ c.if-is_cut.true)
+    cut_run net c.args.feed.now now _ (on_on net c.args.feed.now (λ x y h. c.order_of_events.ensures.inputs_apart x y h) i.fabric now i.rest.now c.index-steps-index.result way yes step) c.in_ok-take_step.ensures.driven.running (sym c.is_cut.ensures.cut ∙ c.if-is_cut.true)
     (λ legal goes off.
     let case : Recording = record { header = c.args.fabric.now.live.header; feed = c.args.feed.now } in
     (c.cut_runs.ensures.rows net case now.journal c.requires.case is.header legal goes off, c.cut_runs.ensures.cut net case now.journal c.requires.case is.header legal goes off))
@@ -94,9 +94,9 @@ loop-index-preserved g c =
       network = same_twice c.args.fabric.now i.fabric now i.invariant.network c.take_step.ensures.network;
       way = λ net is.
           let way = i.invariant.way net is in
-          let yes = way_allowed net c.args.feed.now i.fabric.live.header i.fabric i.rest.now c.index-steps-index.result true (is.header ∙ sym i.invariant.network.header) way (sym c.is_allowed.ensures ∙ c.if-not-is_allowed.false) in
+          let yes = way_allowed net c.args.feed.now (λ x y h. c.order_of_events.ensures.inputs_apart x y h) i.fabric.live.header i.fabric i.rest.now c.index-steps-index.result true (is.header ∙ sym i.invariant.network.header) way (sym c.is_allowed.ensures ∙ c.if-not-is_allowed.false) in
           let step : HasStepped net i.fabric c.index-steps-index.result now = c.in_ok-take_step.ensures.ok net (same_network net g.G.Guest.meaning c.args.fabric.now i.fabric i.invariant.network is) in
-          subst (IsWay net c.args.feed.now now) (sym c.rest_after-rest.ensures) (way_on net c.args.feed.now i.fabric now i.rest.now c.index-steps-index.result way yes step (sym c.is_cut.ensures.cut ∙ c.if-is_cut.false));
+          subst (IsWay net c.args.feed.now now) (sym c.rest_after-rest.ensures) (way_on net c.args.feed.now (λ x y h. c.order_of_events.ensures.inputs_apart x y h) i.fabric now i.rest.now c.index-steps-index.result way yes step (sym c.is_cut.ensures.cut ∙ c.if-is_cut.false));
       journal = λ net is.
           let step : HasStepped net i.fabric c.index-steps-index.result now = c.in_ok-take_step.ensures.ok net (same_network net g.G.Guest.meaning c.args.fabric.now i.fabric i.invariant.network is) in
           longer c.args.steps.now i.fabric.journal now.journal i.index c.index-steps-index.result c.loop-index-test.true c.index-steps-index.is (i.invariant.journal net is) (ap (λ (f : Fabric g.row.G.Denot). f.journal) step.is);

@@ -94,7 +94,7 @@ take_step-requires-clause-enabled g c κs within =
     let i = c.loop-turn in
     let first = network_before net g.G.Guest.meaning c.args.fabric.now i.fabric i.invariant.network is in
     let way = i.invariant.way net first in
-    let yes = chosen_allowed net i.fabric.live.header i.fabric.live.world i.rest.now c.args.feed.now c.place_of.result c.in_ok-step.step is.header i.invariant.driven.parts way.on.goes c.in_ok-step.ensures in
+    let yes = chosen_allowed net (λ x y h. c.order_of_events.ensures.inputs_apart x y h) i.fabric.live.header i.fabric.live.world i.rest.now c.args.feed.now c.place_of.result c.in_ok-step.step is.header i.invariant.driven.parts way.on.goes c.in_ok-step.ensures in
     (allowed_parts net c.args.feed.now i.fabric.live.world i.rest.now c.in_ok-step.step yes).0
 
 pub returns-then-is_cut-clause-journal : goal.returns-then-is_cut-clause-journal
@@ -105,7 +105,7 @@ returns-then-is_cut-clause-journal g c =
     let header : net.header ≡ i.fabric.live.header = is.header ∙ sym i.invariant.network.header in
     let now = c.take_step.new.fabric in
     let s = c.in_ok-step.step in
-    let yes = chosen_allowed net i.fabric.live.header i.fabric.live.world i.rest.now c.args.feed.now c.place_of.result s header i.invariant.driven.parts way.on.goes c.in_ok-step.ensures in
+    let yes = chosen_allowed net (λ x y h. c.order_of_events.ensures.inputs_apart x y h) i.fabric.live.header i.fabric.live.world i.rest.now c.args.feed.now c.place_of.result s header i.invariant.driven.parts way.on.goes c.in_ok-step.ensures in
     let step : HasStepped net i.fabric s now = c.in_ok-take_step.ensures.ok net (same_network net g.G.Guest.meaning c.args.fabric.now i.fabric i.invariant.network is) in
     let at = drawn_choice net.header i.fabric.live.header i.fabric.live.world i.rest.now i.last c.drawn-last.result c.place_of.result c.total-count.result s header c.drawn-last.ensures (c.total-count.ensures i.rest.now) c.place_of.ensures c.in_ok-step.ensures in
     let less : c.args.steps - i._turn ≡ suc (c.args.steps - (i._turn + 1)) = omega (arith, c.loop-turn-test.true) in
@@ -120,7 +120,7 @@ returns-then-is_cut-clause-answer g c =
     let header : net.header ≡ i.fabric.live.header = is.header ∙ sym i.invariant.network.header in
     let now = c.take_step.new.fabric in
     let s = c.in_ok-step.step in
-    let yes = chosen_allowed net i.fabric.live.header i.fabric.live.world i.rest.now c.args.feed.now c.place_of.result s header i.invariant.driven.parts way.on.goes c.in_ok-step.ensures in
+    let yes = chosen_allowed net (λ x y h. c.order_of_events.ensures.inputs_apart x y h) i.fabric.live.header i.fabric.live.world i.rest.now c.args.feed.now c.place_of.result s header i.invariant.driven.parts way.on.goes c.in_ok-step.ensures in
     let step : HasStepped net i.fabric s now = c.in_ok-take_step.ensures.ok net (same_network net g.G.Guest.meaning c.args.fabric.now i.fabric i.invariant.network is) in
     let at = drawn_choice net.header i.fabric.live.header i.fabric.live.world i.rest.now i.last c.drawn-last.result c.place_of.result c.total-count.result s header c.drawn-last.ensures (c.total-count.ensures i.rest.now) c.place_of.ensures c.in_ok-step.ensures in
     let less : c.args.steps - i._turn ≡ suc (c.args.steps - (i._turn + 1)) = omega (arith, c.loop-turn-test.true) in
@@ -135,9 +135,9 @@ returns-then-is_cut-clause-stands g c =
     let header : net.header ≡ i.fabric.live.header = is.header ∙ sym i.invariant.network.header in
     let now = c.take_step.new.fabric in
     let s = c.in_ok-step.step in
-    let yes = chosen_allowed net i.fabric.live.header i.fabric.live.world i.rest.now c.args.feed.now c.place_of.result s header i.invariant.driven.parts way.on.goes c.in_ok-step.ensures in
+    let yes = chosen_allowed net (λ x y h. c.order_of_events.ensures.inputs_apart x y h) i.fabric.live.header i.fabric.live.world i.rest.now c.args.feed.now c.place_of.result s header i.invariant.driven.parts way.on.goes c.in_ok-step.ensures in
     let step : HasStepped net i.fabric s now = c.in_ok-take_step.ensures.ok net (same_network net g.G.Guest.meaning c.args.fabric.now i.fabric i.invariant.network is) in
-    cut_run net c.args.feed.now now _ (on_on net c.args.feed.now i.fabric now i.rest.now s way yes step) c.in_ok-take_step.ensures.driven.running (sym c.is_cut.ensures.cut ∙ c.if-is_cut.true)
+    cut_run net c.args.feed.now now _ (on_on net c.args.feed.now (λ x y h. c.order_of_events.ensures.inputs_apart x y h) i.fabric now i.rest.now s way yes step) c.in_ok-take_step.ensures.driven.running (sym c.is_cut.ensures.cut ∙ c.if-is_cut.true)
     (λ legal goes off.
     let case : Recording = record { header = c.args.fabric.now.live.header; feed = c.args.feed.now } in
     (c.cut_runs.ensures.rows net case now.journal c.requires.case is.header legal goes off, c.cut_runs.ensures.cut net case now.journal c.requires.case is.header legal goes off))
@@ -154,9 +154,9 @@ loop-turn-preserved g c =
           let header : net.header ≡ i.fabric.live.header = is.header ∙ sym i.invariant.network.header in
           let now = c.take_step.new.fabric in
           let s = c.in_ok-step.step in
-          let yes = chosen_allowed net i.fabric.live.header i.fabric.live.world i.rest.now c.args.feed.now c.place_of.result s header i.invariant.driven.parts way.on.goes c.in_ok-step.ensures in
+          let yes = chosen_allowed net (λ x y h. c.order_of_events.ensures.inputs_apart x y h) i.fabric.live.header i.fabric.live.world i.rest.now c.args.feed.now c.place_of.result s header i.invariant.driven.parts way.on.goes c.in_ok-step.ensures in
           let step : HasStepped net i.fabric s now = c.in_ok-take_step.ensures.ok net (same_network net g.G.Guest.meaning c.args.fabric.now i.fabric i.invariant.network is) in
-          subst (IsWay net c.args.feed.now now) (sym c.rest_after-rest.ensures) (way_on net c.args.feed.now i.fabric now i.rest.now s way yes step (sym c.is_cut.ensures.cut ∙ c.if-is_cut.false));
+          subst (IsWay net c.args.feed.now now) (sym c.rest_after-rest.ensures) (way_on net c.args.feed.now (λ x y h. c.order_of_events.ensures.inputs_apart x y h) i.fabric now i.rest.now s way yes step (sym c.is_cut.ensures.cut ∙ c.if-is_cut.false));
       schedule =
           λ net is.
           let i = c.loop-turn in
@@ -164,7 +164,7 @@ loop-turn-preserved g c =
           let header : net.header ≡ i.fabric.live.header = is.header ∙ sym i.invariant.network.header in
           let now = c.take_step.new.fabric in
           let s = c.in_ok-step.step in
-          let yes = chosen_allowed net i.fabric.live.header i.fabric.live.world i.rest.now c.args.feed.now c.place_of.result s header i.invariant.driven.parts way.on.goes c.in_ok-step.ensures in
+          let yes = chosen_allowed net (λ x y h. c.order_of_events.ensures.inputs_apart x y h) i.fabric.live.header i.fabric.live.world i.rest.now c.args.feed.now c.place_of.result s header i.invariant.driven.parts way.on.goes c.in_ok-step.ensures in
           let step : HasStepped net i.fabric s now = c.in_ok-take_step.ensures.ok net (same_network net g.G.Guest.meaning c.args.fabric.now i.fabric i.invariant.network is) in
           let at = drawn_choice net.header i.fabric.live.header i.fabric.live.world i.rest.now i.last c.drawn-last.result c.place_of.result c.total-count.result s header c.drawn-last.ensures (c.total-count.ensures i.rest.now) c.place_of.ensures c.in_ok-step.ensures in
           let less : c.args.steps - i._turn ≡ suc (c.args.steps - (i._turn + 1)) = omega (arith, c.loop-turn-test.true) in

@@ -51,6 +51,10 @@ returns-clause-at_rest g c = λ net f rules reached quiet.
       no_other = λ h b. one.no_other_is net w.accepted play.timed fed h b;
       no_other_below = λ bound h b r l. one.no_other_is_below net w.accepted play.timed fed bound h b r l;
     })
+    (record {
+      settled = λ h k e a. c.same_families.ensures.settled net f.live.world.accepted h k e a;
+      settled_below = λ bound h k e a. c.same_families.ensures.settled_below net f.live.world.accepted bound h k e a;
+    })
 
 pub returns-clause-ahead : goal.returns-clause-ahead
 returns-clause-ahead g c = λ net f reached. c.horizon.ensures.greatest net f.live.world f.live.world.boundary reached.past

@@ -1,6 +1,9 @@
-use Rattle.std.proofs.Common.{◌≡◌, [], rules}
-use Rattle.dn_workers.proofs.Gathering.{gathering_more, gathering_last, last_is}
+use Rattle.std.proofs.Common.{◌≡◌, [], ◌∙◌, rules}
+use Rattle.dn_workers.proofs.Gathering.{gathering_first, gathering_more, gathering_last, last_is}
 use Rattle.dn_workers.proofs.seats.join_all.Goals as goal
+
+pub loop-seat-init : goal.loop-seat-init
+loop-seat-init g c = gathering_first c.args.seats.items c.args.first.now c.requires.free c.requires.first c.requires.feeds (c.requires.out ∙ c.args.seats.ok.0) c.requires.seats
 
 pub loop-seat-preserved : goal.loop-seat-preserved
 loop-seat-preserved g c =

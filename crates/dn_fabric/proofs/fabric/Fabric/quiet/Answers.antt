@@ -20,13 +20,13 @@ returns-then-not-closed-clause-quiet g c =
 pub returns-clause-quiet : goal.returns-clause-quiet
 returns-clause-quiet g c =
     quiet_is c.args.self.now.live.world c.are_quiet.result (sym c.closed.ensures ∙ c.if-not-closed.false) (subst (λ n. n ≤ 0) c.flying.ensures c.if-flying-gt0.false)
-    (c.are_quiet.ensures ∙ ap are_quiet (c.routers.ensures.parts ∙ ap (λ b. b.live.world.parts) c.self.view_is))
+    (c.are_quiet.ensures ∙ ap (λ b. are_quiet b.live.world.parts) c.self.view_is)
 
 pub returns-clause-at_rest : goal.returns-clause-at_rest
 returns-clause-at_rest g c =
     let f = fab c.self.inside.world c.self.inside.journal.items c.self.inside.leased.items in
     let quiet = quiet_is c.args.self.now.live.world c.are_quiet.result (sym c.closed.ensures ∙ c.if-not-closed.false) (subst (λ n. n ≤ 0) c.flying.ensures c.if-flying-gt0.false)
-    (c.are_quiet.ensures ∙ ap are_quiet (c.routers.ensures.parts ∙ ap (λ b. b.live.world.parts) c.self.view_is)) in
+    (c.are_quiet.ensures ∙ ap (λ b. are_quiet b.live.world.parts) c.self.view_is) in
     subst (λ (b : Fabric g.row.G.Denot). (net : Network g.row.G.Denot) → IsNetworkOf net g.G.Guest.meaning b.live.header b.live.openings → b.live.stopped ≡ false → c.are_quiet.result ≡ true → IsAtRest net b.live) c.self.view_is
     (λ net of running calm. c.reached_fabrics.ensures.at_rest net f (rules_of g.G.Guest.meaning f net c.self.invariant of) (c.self.invariant.reached net of running)
     (ap (λ b. is_quiet b.live.world) c.self.view_is ∙ sym quiet ∙ calm))

@@ -7,8 +7,7 @@ pub returns : goal.returns
 returns g c =
     let flight = c.self.inside.flight in
     c.least_key.ensures
-    ∙ ap (λ k. least_key k (flying flight)) c.least_of-least.ensures
-    ∙ ap (λ l. least_key (least_key c.floor_bound.result (waiting_of l)) (flying flight)) c.as_slice.ensures.value
-    ∙ ap (λ k. least_key (least_key k (waiting_of c.self.inside.routers.items)) (flying flight)) c.floor_bound.ensures
+    ∙ ap (λ k. least_key k (flying flight)) c.least_key-least.ensures
+    ∙ ap (λ k. least_key (least_key k (waiting_of c.self.inside.routers)) (flying flight)) c.floor_bound.ensures
     ∙ (λ i. least_key (least_key (floor_bound c.args.self.now.header c.args.self.now.world) (waiting_at (c.self.view_is i).world.parts)) (flying (c.self.view_is i).world.flight))
     ∙ horizon_is c.args.self.now.header c.args.self.now.world

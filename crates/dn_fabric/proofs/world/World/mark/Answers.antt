@@ -4,6 +4,6 @@ use Rattle.dn_fabric.proofs.world.World.mark.Goals as goal
 
 pub invariant_of-self : goal.invariant_of-self
 invariant_of-self g c =
-    let rs = c.self.inside.routers.items in
+    let rs = c.self.inside.routers in
     before_whole c.self.inside.header rs rs c.self.inside.boundary c.self.inside.rows.items c.self.inside.cut c.self.inside.stopped c.marking.new.stopped (before_same rs)
     (marked (is_ok c.args.outcome) c.self.inside.stopped c.marking.new.stopped c.marking.ensures.mark) c.self.invariant

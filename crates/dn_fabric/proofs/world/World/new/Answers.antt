@@ -12,12 +12,13 @@ invariant_of-result g c =
     let h = c.args.header in
     let rules = subst (λ (x : Heading). IsHeading x) c.header.view_is c.header.invariant in
     let whole = opening_whole h c.args.guests.items rules c.requires in
-    let on_routers = subst (λ (l : List (Speculation g.row.G.Denot)). IsWhole h l (key_of 0 0) [] false false) (sym c.in_ok-routers.ensures) whole in
-    subst (λ (l : List Event). IsWhole h c.in_ok-routers.routers.items (key_of 0 0) l false false) (sym c.new-3.ensures.items) on_routers
+    let made = c.in_ok-routers.ensures ∙ c.in_ok-opening_routers.ensures in
+    let on_routers = subst (λ (l : List (Speculation g.row.G.Denot)). IsWhole h l (key_of 0 0) [] false false) (sym made) whole in
+    subst (λ (l : List Event). IsWhole h c.in_ok-routers.routers (key_of 0 0) l false false) (sym c.new-3.ensures.items) on_routers
 
 pub returns : goal.returns
 returns g c =
-    let routers = c.in_ok-routers.ensures in
+    let routers = c.in_ok-routers.ensures ∙ c.in_ok-opening_routers.ensures in
     let flight = c.new.ensures in
     let accepted = c.new-2.ensures.items in
     let rows = c.new-3.ensures.items in

@@ -10,28 +10,56 @@ use Rattle.dn_lockstep.specs.Steps.{IsHandled}
 use Rattle.dn_lockstep.proofs.Firsts.{some_least}
 use Rattle.dn_lockstep.proofs.Places.{kept_items}
 use Rattle.dn_lockstep.proofs.Handling.{handled_inside}
-use Rattle.dn_lockstep.proofs.Onward.{place_at_end, at_end, more_rows, stands_on, answer_end, answer_cut, answer_row}
+use Rattle.dn_lockstep.proofs.Onward.{OneByOne, OneFamily, place_at_end, at_end, more_rows, stands_on, answer_end, answer_cut, answer_row}
 use Rattle.dn_lockstep.proofs.engine.Engine.next.Goals as goal
 
 pub returns-then-is_empty-clause-answer : goal.returns-then-is_empty-clause-answer
 returns-then-is_empty-clause-answer g c =
     λ net feed are so.
+    let rows_one_by_one : OneByOne net feed =
+    record {
+      in_any_order = λ done waits other so_far moves. c.rows_one_by_one.ensures.in_any_order net feed done waits other so_far moves;
+      onward = λ timed wired fed done waits rest e so_far moves first. c.rows_one_by_one.ensures.onward net feed timed wired fed done waits rest e so_far moves first;
+      next = λ timed fed done waits rest e so_far moves first. c.rows_one_by_one.ensures.next net feed timed fed done waits rest e so_far moves first;
+      last = λ timed fed done so_far. c.rows_one_by_one.ensures.last net feed timed fed done so_far;
+    } in
     let none : waiting_in c.self.inside.agenda ≡ [] = (c.is_empty.ensures (c.self.invariant.fronted c.if-self.false)).0 c.if-is_empty.true in
-    answer_end c.args.self.now.place (rows net feed) (place_at_end net feed c.args.self.now so (ap (λ (r : Running g.row.G.Denot). r.waiting) (sym c.self.view_is) ∙ none))
+    answer_end c.args.self.now.place (rows net feed) (place_at_end net feed rows_one_by_one c.args.self.now so (ap (λ (r : Running g.row.G.Denot). r.waiting) (sym c.self.view_is) ∙ none))
 
 pub returns-then-is_empty-clause-moved : goal.returns-then-is_empty-clause-moved
 returns-then-is_empty-clause-moved g c =
     λ net feed are so.
+    let rows_one_by_one : OneByOne net feed =
+    record {
+      in_any_order = λ done waits other so_far moves. c.rows_one_by_one.ensures.in_any_order net feed done waits other so_far moves;
+      onward = λ timed wired fed done waits rest e so_far moves first. c.rows_one_by_one.ensures.onward net feed timed wired fed done waits rest e so_far moves first;
+      next = λ timed fed done waits rest e so_far moves first. c.rows_one_by_one.ensures.next net feed timed fed done waits rest e so_far moves first;
+      last = λ timed fed done so_far. c.rows_one_by_one.ensures.last net feed timed fed done so_far;
+    } in
     let none : waiting_in c.self.inside.agenda ≡ [] = (c.is_empty.ensures (c.self.invariant.fronted c.if-self.false)).0 c.if-is_empty.true in
-    (refl, at_end net feed c.args.self.now so (ap (λ (r : Running g.row.G.Denot). r.waiting) (sym c.self.view_is) ∙ none))
+    let one : OneFamily net feed =
+    record {
+      no_other = λ timed fed f is. c.one_settled_family.ensures.no_other_is net feed timed fed f is;
+      lockstep_below = λ timed fed bound. c.one_settled_family.ensures.lockstep_is_below net feed timed fed bound;
+      no_other_below = λ timed fed bound f is. c.one_settled_family.ensures.no_other_is_below net feed timed fed bound f is;
+      same = λ bound f h same is. c.same_families.ensures.settled_below net feed bound f h same is;
+    } in
+    (refl, at_end net feed rows_one_by_one c.args.self.now so one (ap (λ (r : Running g.row.G.Denot). r.waiting) (sym c.self.view_is) ∙ none))
 
 pub returns-then-self-row_limit-clause-answer : goal.returns-then-self-row_limit-clause-answer
 returns-then-self-row_limit-clause-answer g c =
     λ net feed are so.
+    let rows_one_by_one : OneByOne net feed =
+    record {
+      in_any_order = λ done waits other so_far moves. c.rows_one_by_one.ensures.in_any_order net feed done waits other so_far moves;
+      onward = λ timed wired fed done waits rest e so_far moves first. c.rows_one_by_one.ensures.onward net feed timed wired fed done waits rest e so_far moves first;
+      next = λ timed fed done waits rest e so_far moves first. c.rows_one_by_one.ensures.next net feed timed fed done waits rest e so_far moves first;
+      last = λ timed fed done so_far. c.rows_one_by_one.ensures.last net feed timed fed done so_far;
+    } in
     let some : waiting_in c.self.inside.agenda ≡ [] → ⊥ = λ none. both_ways c.is_empty.result c.if-is_empty.false ((c.is_empty.ensures (c.self.invariant.fronted c.if-self.false)).1 none) in
     let same : waiting_in c.self.inside.agenda ≡ c.args.self.now.waiting = ap (λ (r : Running g.row.G.Denot). r.waiting) c.self.view_is in
     let least = some_least (waiting_in c.self.inside.agenda) some in
-    let more : c.args.self.now.place < length (rows net feed) = more_rows net feed c.args.self.now so least.0 (subst (IsLeast least.0) same least.1) in
+    let more : c.args.self.now.place < length (rows net feed) = more_rows net feed rows_one_by_one c.args.self.now so least.0 (subst (IsLeast least.0) same least.1) in
     answer_cut c.args.self.now.place (rows net feed) more (ap (λ (r : Running g.row.G.Denot). r.place) (sym c.self.view_is) ∙ c.if-self-row_limit.true ∙ c.row_limit.ensures)
 
 pub handle_least-requires-clause-more : goal.handle_least-requires-clause-more
@@ -52,22 +80,37 @@ invariant_of-self g c =
       within = omega (arith, c.self.invariant.within, c.row_limit.ensures, c.if-self-row_limit.false);
       last_at = (λ none. absurd (cc), λ start. absurd (omega (arith, start)));
       inside = λ unspent.
-          handled_inside g.G.Guest.meaning c.self.inside.header c.as_mut_slice.result.now c.self.invariant.rules (waiting_in c.self.inside.agenda) (waiting_in c.handle_least.new.agenda) c.in-Ok.event new (c.self.invariant.inside unspent) c.in-Ok.ensures.handled;
+          handled_inside g.G.Guest.meaning c.self.inside.header c.as_mut_slice.result.now
+          (λ cause sents. c.lists_of_routers.ensures.inside c.self.inside.header cause sents c.self.invariant.rules) (waiting_in c.self.inside.agenda) (waiting_in c.handle_least.new.agenda) c.in-Ok.event new (c.self.invariant.inside unspent) c.in-Ok.ensures.handled;
       fronted = λ unspent. c.in-Ok.ensures.fronted;
     }
 
 pub returns-in-Ok-clause-answer : goal.returns-in-Ok-clause-answer
 returns-in-Ok-clause-answer g c =
     λ net feed are so.
+    let rows_one_by_one : OneByOne net feed =
+    record {
+      in_any_order = λ done waits other so_far moves. c.rows_one_by_one.ensures.in_any_order net feed done waits other so_far moves;
+      onward = λ timed wired fed done waits rest e so_far moves first. c.rows_one_by_one.ensures.onward net feed timed wired fed done waits rest e so_far moves first;
+      next = λ timed fed done waits rest e so_far moves first. c.rows_one_by_one.ensures.next net feed timed fed done waits rest e so_far moves first;
+      last = λ timed fed done so_far. c.rows_one_by_one.ensures.last net feed timed fed done so_far;
+    } in
     let some : waiting_in c.self.inside.agenda ≡ [] → ⊥ = λ none. both_ways c.is_empty.result c.if-is_empty.false ((c.is_empty.ensures (c.self.invariant.fronted c.if-self.false)).1 none) in
     let same : waiting_in c.self.inside.agenda ≡ c.args.self.now.waiting = ap (λ (r : Running g.row.G.Denot). r.waiting) c.self.view_is in
     let least = some_least (waiting_in c.self.inside.agenda) some in
-    let more : c.args.self.now.place < length (rows net feed) = more_rows net feed c.args.self.now so least.0 (subst (IsLeast least.0) same least.1) in
+    let more : c.args.self.now.place < length (rows net feed) = more_rows net feed rows_one_by_one c.args.self.now so least.0 (subst (IsLeast least.0) same least.1) in
     answer_row c.args.self.now.place (rows net feed) more (λ at. c.if-self-row_limit.false (ap (λ (r : Running g.row.G.Denot). r.place) c.self.view_is ∙ at ∙ sym c.row_limit.ensures))
 
 pub returns-in-Ok-clause-moved : goal.returns-in-Ok-clause-moved
 returns-in-Ok-clause-moved g c =
     λ net feed are so.
+    let rows_one_by_one : OneByOne net feed =
+    record {
+      in_any_order = λ done waits other so_far moves. c.rows_one_by_one.ensures.in_any_order net feed done waits other so_far moves;
+      onward = λ timed wired fed done waits rest e so_far moves first. c.rows_one_by_one.ensures.onward net feed timed wired fed done waits rest e so_far moves first;
+      next = λ timed fed done waits rest e so_far moves first. c.rows_one_by_one.ensures.next net feed timed fed done waits rest e so_far moves first;
+      last = λ timed fed done so_far. c.rows_one_by_one.ensures.last net feed timed fed done so_far;
+    } in
     let new = c.handle_least.new.nodes in
     let event = c.in-Ok.event in
     let waits = waiting_in c.handle_least.new.agenda in
@@ -78,7 +121,7 @@ returns-in-Ok-clause-moved g c =
     let old_len : length c.as_mut_slice.result.now ≡ length c.self.inside.nodes.items = ap length c.as_mut_slice.ensures.value in
     let len : c.self.inside.nodes.len ≡ length new = omega (arith, old_len, c.handle_least.auto.nodes, c.self.inside.nodes.ok) in
     let same : take c.self.inside.nodes.len (new ++ drop (length new) c.self.inside.nodes.items) ≡ new = kept_items c.self.inside.nodes.len new c.self.inside.nodes.items len in
-    let on = stands_on net feed before stood g.G.Guest.meaning are event new waits handled in (
+    let on = stands_on net feed rows_one_by_one before stood g.G.Guest.meaning are event new waits handled in (
       subst (λ (ns : List (Node g.row.G.Denot)). StandsIn net feed (record { header = c.self.inside.header; nodes = ns; waiting = waits; place = c.self.inside.place + 1; last = Some event; spent = c.self.inside.spent })) (sym same)
           (subst (λ (s : Bool). StandsIn net feed (record { header = c.self.inside.header; nodes = new; waiting = waits; place = c.self.inside.place + 1; last = Some event; spent = s })) (sym c.if-self.false) on),
       ap (λ (r : Running g.row.G.Denot). r.place + 1) c.self.view_is,

@@ -52,7 +52,7 @@ returns g c =
           sym c.outcome.view_is
           ∙ order_parts m s c.outcome.inside.router c.outcome.inside.place c.outcome.inside.base c.outcome.inside.inputs.items c.in-Some.least.now
           (ap (λ t. t.router) c.outcome.view_is ∙ c.requires.own ∙ sym (ap (λ s. s.number) c.self.view_is))
-          (c.if-outcome-place.false ∙ at.0) (c.same.ensures.0 t ∙ at.1) c.in-Some.ensures inputs
+          (c.if-outcome-place.false ∙ at.0) (sym c.node.ensures ∙ c.same.ensures.0 t ∙ at.1) c.in-Some.ensures inputs
           ∙ ap (order_of m) c.self.view_is,
-      λ e. c.same.ensures.1 (ap (λ t. t.base) (c.outcome.view_is ∙ e ∙ sym (ap (order_of m) c.self.view_is)) ∙ order_base m s ∙ sym at.1),
+      λ e. c.same.ensures.1 (c.node.ensures ∙ ap (λ t. t.base) (c.outcome.view_is ∙ e ∙ sym (ap (order_of m) c.self.view_is)) ∙ order_base m s ∙ sym at.1),
     )
