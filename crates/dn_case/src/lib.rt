@@ -54,7 +54,7 @@ pub use laws::{
     a_read_line_is_spelled, a_spelled_line_is_read, a_text_has_one_case,
     a_text_has_one_first_bad_line, a_written_case_is_read, prefix_lines_may_be_interleaved,
 };
-pub use live_lines::read_live;
+pub use live_lines::{number_of, read_live};
 pub use read::read_case;
 pub use trace_section::split_trace;
 pub use write::{push_external, write_case};

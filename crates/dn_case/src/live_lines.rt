@@ -58,8 +58,8 @@ fn live_fields(line: &[u8]) -> Option<(&[u8], Asked<'_>)>
     }
 }
 
-/// The number of the router of a name.
-fn number_of(routers: &[RouterDef], name: &[u8]) -> Option<usize>
+/// The number of the router of a name, looked for in turn; None if no router has it.
+pub fn number_of(routers: &[RouterDef], name: &[u8]) -> Option<usize>
     ensures found { result ≡ number_of routers.now name.now }
     ensures within { IfSome result (λ i. i < length routers.now) }
 {

@@ -5,6 +5,7 @@ ghost use Rattle.dn_model.specs.Routers.{number_of};
 ghost use Rattle.dn_case.specs.Shapes.{is_word};
 ghost use Rattle.dn_command.specs.Commands.{number_in, from_to, probe_name};
 
+use dn_case::number_of;
 use dn_guest::{Bytes, NoMemory};
 use dn_model::RouterDef;
 use dn_text::decimal;
@@ -61,22 +62,6 @@ pub fn router_of(routers: &[RouterDef], name: &[u8]) -> Option<u16>
     ensures { result ≡ number_of routers.now name.now }
 {
     Some(number_of(routers, name)? as u16)
-}
-
-fn number_of(routers: &[RouterDef], name: &[u8]) -> Option<usize>
-    ensures found { result ≡ number_of routers.now name.now }
-    ensures within { IfSome result (λ i. i < length routers.now) }
-{
-    let mut number = 0usize;
-    let mut left = routers;
-    'routers: while let Some((router, rest)) = left.split_first() {
-        if name == router.name.as_slice() {
-            return Some(number);
-        }
-        number += 1;
-        left = rest;
-    }
-    None
 }
 
 /// The name of a probe; None where the field is empty.
