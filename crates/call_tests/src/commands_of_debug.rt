@@ -96,7 +96,11 @@ fn other_lines_are_no_commands(rt: HostRuntime) -> Result<(), NoMemory> {
 #[test]
 fn a_command_has_the_numbers_of_its_line(rt: HostRuntime) -> Result<(), NoMemory> {
     let case = case_of(rt.alloc(), PAIR)?;
-    let found = read_command(rt.alloc(), case.header.routers.as_slice(), b"break port b 3")?;
+    let found = read_command(
+        rt.alloc(),
+        case.header.routers.as_slice(),
+        b"break port b 3",
+    )?;
     assert!(rt; matches!(found, Some(Command::Break(Break::Port(1, 3)))));
     Ok(())
 }
