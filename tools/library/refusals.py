@@ -27,6 +27,7 @@ OTHERS = "open|usage|cut|too big|read fault|write fault|no memory"
 LINE = re.compile(r"(?:defined: )?(?:line (\d+): (%s)|illegal step (\d+)|differs at (\d+)|(%s))\s*" % (CAUSES, OTHERS))
 COMMANDS = """defined lockstep < CASE                      handles the case; writes the recording and the trace
 defined run [--workers N] [--journal] < CASE the same on N threads (1 to 16), with their journal if asked
+    with --live < HEAD-AND-LINES             the same of lines that come while it runs
 defined check < CASE-AND-TRACE               is the trace the case's?
 defined rerun < CASE-AND-JOURNAL             takes the journal's steps
 defined shake NUMBER --steps M < CASE        takes steps drawn from NUMBER, at most M (1 to 1,000,000)"""

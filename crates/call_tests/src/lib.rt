@@ -13,7 +13,10 @@
 //! | `full.rt` | a full link-state database, a full RIP routing table |
 //! | `laws.rt` | each law of networks at the flooding guest |
 //! | `live.rt` | lines of a source in pieces and at its faults, beats of a clock, live lines |
+//! | `ospf.rt` | each law of OSPF routers |
 //! | `probes.rt` | the probes, on tables of small shows |
+//! | `rip.rt` | each law of RIP routers |
+//! | `sessions.rt` | a session of the debugger: a whole transcript, and when it drops its probes |
 //! | `streams.rt` | the words of errors, and what may go to another thread |
 //! | `traces.rt` | single rows and states, rows that come in pieces |
 //!
@@ -34,7 +37,13 @@ mod laws;
 #[cfg(test)]
 mod live;
 #[cfg(test)]
+mod ospf;
+#[cfg(test)]
 mod probes;
+#[cfg(test)]
+mod rip;
+#[cfg(test)]
+mod sessions;
 #[cfg(test)]
 mod streams;
 #[cfg(test)]

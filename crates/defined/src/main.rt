@@ -1,11 +1,11 @@
-//! The program `defined`: it makes the real source and sink, calls `defined_top` with its words and a gate that
+//! The program `defined`: it makes the real source, sink and metronome, calls `defined_top` with its words and a gate that
 //! holds up no worker, writes the status's line to standard error, and ends with the status's number.
 #![tactic(auto)]
 
 mod telling;
 
 use crate::telling::tell;
-use dn_io::{StdSink, StdSource};
+use dn_io::{ClockBeats, StdSink, StdSource};
 use dn_top::{OpenGate, Status, defined_top, status_number};
 use std::alloc::AllocError;
 use std::env;
@@ -42,7 +42,16 @@ fn main(rt: HostRuntime) -> ExitCode {
             let mut source = StdSource::new(rt.stdin());
             let mut sink = StdSink::new(rt.stdout());
             let words = words.as_slice();
-            defined_top(&rt, rt.alloc(), words, &mut source, &mut sink, &OpenGate)
+            let mut beats = ClockBeats::new(&rt);
+            defined_top(
+                &rt,
+                rt.alloc(),
+                words,
+                &mut source,
+                &mut sink,
+                &mut beats,
+                &OpenGate,
+            )
         }
         None => Status::Usage,
     };

@@ -16,22 +16,22 @@ use std::alloc::Global;
 ///
 /// Seen as `Hearing` of `specs/Live.antt`.
 #[derive(Drop)]
-pub struct LiveFeed<'a, S: Source, M: Metronome> {
+pub struct LiveFeed<'s, 'm, S: Source, M: Metronome> {
     pub(crate) live: LiveLog,
-    pub(crate) source: &'a mut S,
-    pub(crate) beats: &'a mut M,
+    pub(crate) source: &'s mut S,
+    pub(crate) beats: &'m mut M,
 }
 
-impl<'a, S: Source, M: Metronome> LiveFeed<'a, S, M> {
+impl<'s, 'm, S: Source, M: Metronome> LiveFeed<'s, 'm, S, M> {
     /// A feeder of the lines that the reader gives from now on, of which the first has this number.
     pub fn new(
         alloc: Global,
         header: Header,
         lines: LineReader,
         first: u64,
-        source: &'a mut S,
-        beats: &'a mut M,
-    ) -> LiveFeed<'a, S, M>
+        source: &'s mut S,
+        beats: &'m mut M,
+    ) -> LiveFeed<'s, 'm, S, M>
         requires open { lines.is_open ≡ true }
         requires few { first + lines.room < 2 ^ 64 }
         ensures live { result.live ≡ opening_live header lines first }
@@ -53,15 +53,25 @@ impl<'a, S: Source, M: Metronome> LiveFeed<'a, S, M> {
         self.live.ended()
     }
 
-    /// The header with all that was given: the recording of what was heard.
-    pub fn into_case(self) -> Case
-        ensures { result ≡ record { header = self.entry.live.header; feed = self.entry.live.given } }
+    /// The header with all that was given, the recording of what was heard; and the source and the metronome, as they
+    /// are.
+    pub fn into_parts(self) -> (Case, &'s mut S, &'m mut M)
+        ensures case { result.0 ≡ record { header = self.entry.live.header; feed = self.entry.live.given } }
+        ensures source { (result.1.ghost_name ≡ self.entry.source.ghost_name)
+            × (result.1.now ≡ self.entry.source.now) }
+        ensures beats { (result.2.ghost_name ≡ self.entry.beats.ghost_name)
+            × (result.2.now ≡ self.entry.beats.now) }
     {
-        self.live.into_case()
+        let LiveFeed {
+            live,
+            source,
+            beats,
+        } = self;
+        (live.into_case(), source, beats)
     }
 }
 
-impl<'a, S: Source, M: Metronome> Feeder for LiveFeed<'a, S, M> {
+impl<'s, 'm, S: Source, M: Metronome> Feeder for LiveFeed<'s, 'm, S, M> {
     ghost use Rattle.std.specs.Prelude.{◌≡◌, is_some};
     ghost use Rattle.std.proofs.Common.{◌∙◌, refl};
     ghost use Rattle.dn_record.specs.Live.{Follows, hearing};

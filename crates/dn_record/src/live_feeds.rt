@@ -53,7 +53,8 @@ fn heard(
     let mut feed = LiveFeed::new(alloc, header(alloc)?, lines, 9, &mut source, &mut beats);
     let stamps = stamps(alloc, &mut feed)?;
     let ended = feed.ended();
-    Ok((stamps, ended, feed.into_case()))
+    let (case, _source, _beats) = feed.into_parts();
+    Ok((stamps, ended, case))
 }
 
 #[test]

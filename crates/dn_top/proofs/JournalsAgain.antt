@@ -1,10 +1,9 @@
 -- What is written with a journal is read as that case and that journal.
-use Rattle.std.proofs.Common.{◌≡◌, ℕ, ◌<◌, ◌≤◌, ◌^◌, ◌+◌, Bool, false, true, List, [], ◌∷◌, ◌++◌, length, drop, refl, sym, ap, subst, ◌∙◌, append_assoc}
+use Rattle.std.proofs.Common.{◌≡◌, ℕ, ◌<◌, ◌≤◌, ◌^◌, ◌+◌, Bool, false, true, List, [], ◌∷◌, ◌++◌, length, drop, sym, ap, subst, ◌∙◌, append_assoc}
 use Rattle.std.specs.List.{AllByRecursion}
 use Rattle.std.proofs.lemmas.List.{length-append}
 use Rattle.std.proofs.Math.Seq.{drop-append_seam}
 use Rattle.dn_model.specs.Cases.{Heading, IsHeading, Recording, IsRecording}
-use Rattle.dn_model.specs.Network.{Network}
 use Rattle.dn_world.specs.declared.step.Step.{Step}
 use Rattle.dn_world.specs.Runs.{IsLegal}
 use Rattle.dn_text.specs.Lines.{lines}
@@ -13,8 +12,7 @@ use Rattle.dn_case.specs.Spelling.{case_text}
 use Rattle.dn_case.specs.TraceSections.{section_len}
 use Rattle.dn_journal.specs.Reading.{IsJournal}
 use Rattle.dn_journal.specs.Spelling.{Fits, IsOf, IsStep, journal_text}
-use Rattle.guest_any.specs.declared.any.AnyGuest.{AnyGuest}
-use Rattle.dn_top.specs.Promises.{EndsCut, EndsWhole, HasJournal, HasRerun, IsCaseRun, end_of_run, input_limit, journal_place, network_of, outcome_of, shaken, trace_of, written}
+use Rattle.dn_top.specs.Promises.{HasJournal, HasRerun, IsCaseRun, end_of_run, input_limit, journal_place, network_of, shaken, trace_of, written}
 
 -- steps that are of a header, and whose numbers are within their types
 all_steps : (h : Heading) (steps : List Step) → AllByRecursion (IsOf h) steps → AllByRecursion Fits steps → AllByRecursion (IsStep h) steps

@@ -11,3 +11,5 @@ pub mod Running
 pub mod Promising
 pub mod Sections
 pub mod JournalsAgain
+pub mod LiveHeadLaws
+pub mod LiveAnswering

@@ -1,9 +1,8 @@
 -- The trace section of a text that begins with a trace is that trace.
-use Rattle.std.proofs.Common.{◌≡◌, ℕ, zero, suc, ◌+◌, ◌/◌, ◌%◌, ◌<◌, ◌≤◌, Bool, true, false, cond, not, ◌&&◌, ◌||◌, eqb, nat_eq, nat_lt, nat_le, List, [], ◌∷◌, ◌++◌, length, take, refl, sym, ap, ◌∙◌, arith, append_assoc, codes}
+use Rattle.std.proofs.Common.{◌≡◌, ℕ, zero, suc, ◌+◌, ◌/◌, ◌%◌, ◌<◌, ◌≤◌, Bool, true, false, cond, not, ◌&&◌, eqb, nat_lt, nat_le, List, [], ◌∷◌, ◌++◌, length, take, refl, sym, ap, ◌∙◌, arith, append_assoc, codes}
 use Rattle.std.proofs.lemmas.Bool.Decides.{nat_tests}
-use Rattle.std.specs.Prelude.{slice_get, Option, Some, None, IsTrue}
 use Rattle.std.specs.Fmt.{decimal, digits_onto, digits, digit_glyph}
-use Rattle.std.specs.List.{concat, flat_map, position_or_len, onto_first, starts_with}
+use Rattle.std.specs.List.{concat, position_or_len}
 use Rattle.std.proofs.lemmas.List.{length-append}
 use Rattle.std.specs.Int.{to_be_bytes, w16, w64}
 use Rattle.std.proofs.lemmas.Bool.{eqb-true}
@@ -18,7 +17,7 @@ use Rattle.dn_model.specs.declared.event.Event.{Event}
 use Rattle.dn_model.specs.declared.feed.External.{External}
 use Rattle.dn_model.specs.declared.router.RouterDef.{RouterDef}
 use Rattle.dn_model.specs.Cases.{IsHeading, AreRouters}
-use Rattle.dn_model.specs.Names.{is_letter_or_digit, is_name, is_letter, is_digit, begins_well}
+use Rattle.dn_model.specs.Names.{is_letter_or_digit, is_letter, begins_well}
 use Rattle.dn_model.specs.Network.{Network, routers, state}
 use Rattle.dn_model.specs.Routers.{name_at}
 use Rattle.dn_model.specs.Settled.{lockstep, rows, shown_rows, row_limit, is_cut}

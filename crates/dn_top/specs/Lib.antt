@@ -4,3 +4,5 @@ pub mod Promises
 pub mod Completeness
 pub mod Drives
 pub mod Commands
+pub mod LiveHeads
+pub mod LiveRuns

@@ -2,6 +2,7 @@
 use Rattle.std.specs.Prelude.{List, [], ◌∷◌, ℕ, Bool, true, false, Option, Some, None, codes, if◌then◌else◌, nat_eq, nat_le, ◌&&◌}
 use Rattle.std.specs.Cmp.Lexicographic.{pointwise}
 use Rattle.dn_text.specs.Decimals.{decimal_of}
+use Rattle.dn_top.specs.declared.words.RunOptions.{RunOptions}
 use Rattle.dn_top.specs.declared.words.Command.{Command}
 use Rattle.dn_top.specs.declared.words.Command.TheVariants as command
 
@@ -69,3 +70,38 @@ plain_of (Some command.Check) = Some command.Check
 plain_of (Some command.Rerun) = Some command.Rerun
 plain_of (Some (command.Shake schedule)) = Some (command.Shake schedule)
 plain_of None = None
+
+-- ---- `run --live [--workers N] [--journal]`, in any order: a command by itself
+
+-- the options of `run`, if that is the command
+abbrev pub options_of : Option Command → Option RunOptions
+options_of (Some (command.Run options)) = Some options
+options_of (Some command.Lockstep) = None
+options_of (Some command.Check) = None
+options_of (Some command.Rerun) = None
+options_of (Some (command.Shake schedule)) = None
+options_of None = None
+
+-- `--live` stands first, last or between the others, which mean what they mean without it
+abbrev pub live_run : List (List ℕ) → Option Command
+live_run [] = None
+live_run (a ∷ []) = if is a (codes "--live") then run_of [] else None
+live_run (a ∷ b ∷ []) =
+    if is a (codes "--live") then run_of (b ∷ [])
+    else if is b (codes "--live") then run_of (a ∷ [])
+    else None
+live_run (a ∷ b ∷ c ∷ []) =
+    if is a (codes "--live") then run_of (b ∷ c ∷ [])
+    else if is c (codes "--live") then run_of (a ∷ b ∷ [])
+    else None
+live_run (a ∷ b ∷ c ∷ d ∷ []) =
+    if is a (codes "--live") then run_of (b ∷ c ∷ d ∷ [])
+    else if is d (codes "--live") then run_of (a ∷ b ∷ c ∷ [])
+    else if is a (codes "--journal") && (is b (codes "--live") && is c (codes "--workers")) then run_by (decimal_of d) true
+    else if is a (codes "--workers") && (is c (codes "--live") && is d (codes "--journal")) then run_by (decimal_of b) true
+    else None
+live_run (a ∷ b ∷ c ∷ d ∷ e ∷ more) = None
+
+unfoldable pub live_of : List (List ℕ) → Option RunOptions
+live_of [] = None
+live_of (word ∷ more) = if is word (codes "run") then options_of (live_run more) else None

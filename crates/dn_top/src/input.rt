@@ -14,7 +14,7 @@ use dn_model::Case;
 use std::alloc::Global;
 
 /// The most bytes of an input.
-const MOST_INPUT: u64 = 16_777_216;
+pub(crate) const MOST_INPUT: u64 = 16_777_216;
 
 /// An input with a case at its front.
 #[derive(Drop)]

@@ -1,7 +1,7 @@
 //! The commands: what each reads, writes and answers.
 //!
-//! A command is given a source and a sink, and `run` also a handle that starts threads. `defined_top` is the whole
-//! program but for the real source, sink and handle, so its contract is the program's promise.
+//! A command is given a source and a sink, and `run` also a handle that starts threads, and with `--live` a metronome.
+//! `defined_top` is the whole program but for the real ones of these, so its contract is the program's promise.
 //!
 //! | File | What it has |
 //! |---|---|
@@ -16,12 +16,15 @@
 //! | `ends.rt` | what the steps are that come to an end |
 //! | `shake.rt` | `shake` |
 //! | `threads.rt` | `run` |
+//! | `live_head.rt` | reading the head of a live input, line by line |
+//! | `live.rt` | `run --live` |
 //! | `laws.rt` | what is written with a journal is read again |
 //!
 //! The one contract upwards: the record `Promise` of `specs/Commands.antt`, what a command says of its
 //! source, its sink and its status. It stands on the table `Answers` of `specs/Promises.antt`: for each
 //! command and each status it says what the input was and what was written, over the definitions of the
-//! case text (`dn_case`), the lockstep run (`dn_model`) and the trace text (`dn_trace`).
+//! case text (`dn_case`), the lockstep run (`dn_model`) and the trace text (`dn_trace`). `run --live` doesn't read its
+//! input whole, so it is no `Command`: its words have the record `LivePromise` of `specs/LiveRuns.antt` in its place.
 //!
 //! All commands go one way:
 //!
@@ -38,6 +41,11 @@
 //!             |-- shake_case    shake            (schedule, case)
 //!             |-- ..            a further command is one more driver
 //! sink      Status
+//!
+//! words     live_of             `run --live` alone
+//! source    read_head           Head: the header, and the reader of the lines behind it; a refusal writes nothing
+//!             |-- hear          runs what comes on threads until the feed closes: what was heard, and why no more
+//! sink      write_threaded      as for `run`; then a refusal that has closed the feed goes before Ok and Cut
 //! ```
 //!
 //! A driver is a function from the input, the case and its size, and the sink, to a status. A further one
@@ -50,6 +58,8 @@ mod checking;
 mod ends;
 mod input;
 pub mod laws;
+mod live;
+mod live_head;
 mod rerun;
 mod shake;
 mod shown;

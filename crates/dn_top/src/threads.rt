@@ -83,7 +83,7 @@ fn threaded<Y: Gate + Sync, R: Threads + Wait + Sync>(
 }
 
 /// Writes the recording and the trace, and then the journal if that is asked for.
-fn write_threaded<K: Sink>(
+pub(crate) fn write_threaded<K: Sink>(
     alloc: Global,
     case: &Case,
     fabric: &Fabric<AnyGuest>,

@@ -4,7 +4,7 @@ ghost use Rattle.std.specs.Prelude.{◌≡◌, ◌≤◌, Some, None, codes, map
 ghost use Rattle.std.specs.String.{string_bytes};
 ghost use Rattle.dn_top.specs.declared.words.RunOptions.{RunOptions};
 ghost use Rattle.dn_text.specs.Decimals.{decimal_of};
-ghost use Rattle.dn_top.specs.Words.{is, plain_command, command_of, run_by, run_of, shake_of, scheduled, plain_of};
+ghost use Rattle.dn_top.specs.Words.{is, plain_command, command_of, run_by, run_of, shake_of, scheduled, plain_of, live_of, live_run, options_of};
 
 use dn_text::decimal;
 
@@ -89,6 +89,60 @@ pub(crate) fn run_options(command: Option<Command>) -> Option<RunOptions>
     }
 }
 
+/// How `run --live` is to run what it hears, if the words name that.
+#[tactic(auto, unfolding(crate::specs::Words::live_of))]
+pub(crate) fn live_of(words: &[String]) -> Option<RunOptions>
+    ensures is { result ≡ live_of (map string_bytes words.now) }
+    ensures some { (o : RunOptions) → result ≡ Some o → 1 ≤ o.workers }
+    ensures few { (o : RunOptions) → result ≡ Some o → o.workers ≤ 16 }
+{
+    match words {
+        [] => None,
+        [word, more @ ..] => {
+            if word.as_str() == "run" {
+                options_of(live_run(more))
+            } else {
+                None
+            }
+        }
+    }
+}
+
+/// The options of `run`, if that is the command.
+fn options_of(command: Option<Command>) -> Option<RunOptions>
+    ensures is { result ≡ options_of command }
+    ensures run { (o : RunOptions) → result ≡ Some o → command ≡ Some (Command.Run o) }
+{
+    match command {
+        Some(Command::Run(options)) => Some(options),
+        _ => None,
+    }
+}
+
+/// `run` with the options behind it, of which one is `--live`.
+fn live_run(options: &[String]) -> Option<Command>
+    ensures is { result ≡ live_run (map string_bytes options.now) }
+    ensures some { (o : RunOptions) → result ≡ Some (Command.Run o) → 1 ≤ o.workers }
+    ensures few { (o : RunOptions) → result ≡ Some (Command.Run o) → o.workers ≤ 16 }
+{
+    match options {
+        [a, more @ ..] if is_live(a) => run_of(more),
+        [a, b] if is_live(b) => run_of(&options[..1]),
+        [a, b, c] if is_live(c) => run_of(&options[..2]),
+        [a, b, c, d] if is_live(d) => run_of(&options[..3]),
+        [a, b, c, d] if is_journal(a) && is_live(b) && is_workers(c) => run_by(number(d), true),
+        [a, b, c, d] if is_workers(a) && is_live(c) && is_journal(d) => run_by(number(b), true),
+        _ => None,
+    }
+}
+
+/// Whether the word is `--live`.
+fn is_live(word: &String) -> bool
+    ensures { result ≡ is (string_bytes word.now) (codes "--live") }
+{
+    word.as_str() == "--live"
+}
+
 /// The commands of one word that have no options.
 fn plain_command(word: &str, more: &[String]) -> Option<Command>
     ensures { result ≡ plain_command word.now (map string_bytes more.now) }
@@ -108,7 +162,9 @@ fn plain_command(word: &str, more: &[String]) -> Option<Command>
 
 /// `run` with the options behind it.
 fn run_of(options: &[String]) -> Option<Command>
-    ensures { result ≡ run_of (map string_bytes options.now) }
+    ensures is { result ≡ run_of (map string_bytes options.now) }
+    ensures some { (o : RunOptions) → result ≡ Some (Command.Run o) → 1 ≤ o.workers }
+    ensures few { (o : RunOptions) → result ≡ Some (Command.Run o) → o.workers ≤ 16 }
 {
     match options {
         [] => run_by(Some(USUAL_WORKERS), false),
@@ -143,7 +199,9 @@ fn number(word: &String) -> Option<u64>
 
 /// `run` with 1 to 16 workers.
 fn run_by(workers: Option<u64>, journal: bool) -> Option<Command>
-    ensures { result ≡ run_by workers journal }
+    ensures is { result ≡ run_by workers journal }
+    ensures some { (o : RunOptions) → result ≡ Some (Command.Run o) → 1 ≤ o.workers }
+    ensures few { (o : RunOptions) → result ≡ Some (Command.Run o) → o.workers ≤ 16 }
 {
     match workers {
         Some(workers) => {

@@ -2,7 +2,7 @@
 
 use crate::waiting::{count_one, stays, waits_for};
 use dn_guest::NoMemory;
-use dn_io::{MemSink, MemSource};
+use dn_io::{MemBeats, MemSink, MemSource};
 use dn_top::{Gate, defined_top, status_number};
 use std::alloc::Global;
 use std::sync::Wait;
@@ -32,7 +32,16 @@ fn run<Y: Gate + Sync, R: Threads + Wait + Sync>(
     }
     let mut source = MemSource::new(Vec::from_slice(alloc, case)?, Vec::new(alloc), 1_000);
     let mut sink = MemSink::new(alloc, Vec::new(alloc), 1_000, 100_000)?;
-    let status = defined_top(rt, alloc, owned.as_slice(), &mut source, &mut sink, gate);
+    let mut beats = MemBeats::new(Vec::new(alloc));
+    let status = defined_top(
+        rt,
+        alloc,
+        owned.as_slice(),
+        &mut source,
+        &mut sink,
+        &mut beats,
+        gate,
+    );
     Ok(status_number(&status))
 }
 

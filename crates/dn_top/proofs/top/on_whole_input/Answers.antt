@@ -2,7 +2,7 @@ use Rattle.std.proofs.Common.{Some, ap, sym, ◌∙◌}
 use Rattle.dn_top.specs.declared.words.Command.TheVariants as command
 use Rattle.dn_top.specs.Words.{plain_of}
 use Rattle.dn_top.proofs.Promising.{same_asked}
-use Rattle.dn_top.proofs.top.defined_top.Goals as goal
+use Rattle.dn_top.proofs.top.on_whole_input.Goals as goal
 
 pub returns-in-Some : goal.returns-in-Some
 returns-in-Some g c =

@@ -1,0 +1,11 @@
+pub mod Choice
+pub mod Runs
+pub mod Removal
+pub mod Handled
+pub mod OwnLsa
+pub mod Masks
+pub mod FullLists
+pub mod FullRouters
+pub mod UpPorts
+pub mod Nodes
+pub mod HelloOuts

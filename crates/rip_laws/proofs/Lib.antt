@@ -1,0 +1,12 @@
+pub mod Choice
+pub mod Runs
+pub mod Lookups
+pub mod Steps
+pub mod Times
+pub mod Quiet
+pub mod OwnStay
+pub mod Told
+pub mod UpPorts
+pub mod GivenUp
+pub mod Fits
+pub mod Poisoned
